@@ -1,0 +1,15 @@
+pub mod Paths
+pub mod Names
+pub mod Outcomes
+pub mod Written
+pub mod Headings
+pub mod Nodes
+pub mod Back
+pub mod NodesBack
+pub mod Laws
+pub mod Answered
+pub mod Samples
+pub mod TableFields
+pub mod TableGrowth
+pub mod TableNodes
+pub mod TableRead

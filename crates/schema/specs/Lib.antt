@@ -1,0 +1,9 @@
+pub mod Refusals
+pub mod Schemas
+pub mod Image
+pub mod Reading
+pub mod Places
+pub mod Columns
+pub mod Tables
+pub mod Answering
+pub mod Examples

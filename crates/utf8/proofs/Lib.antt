@@ -1,0 +1,4 @@
+mod Classes
+mod Feeding
+mod Examples
+pub mod Sequences

@@ -1,0 +1,3 @@
+pub mod Unicode
+pub mod States
+pub mod Examples

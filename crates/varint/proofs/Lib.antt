@@ -1,0 +1,4 @@
+pub mod Encoding
+pub mod Refusals
+pub mod Answered
+pub mod Groups

@@ -1,0 +1,4 @@
+pub mod Parsed
+pub mod Number
+pub mod Reading
+pub mod Meaning
