@@ -1,0 +1,12 @@
+pub mod Refusals
+pub mod Shapes
+pub mod Forms
+pub mod Meaning
+pub mod Samples
+pub mod Standing
+pub mod Flat
+pub mod Kinds
+pub mod Links
+pub mod FileColumns
+pub mod Pool
+pub mod Building
