@@ -24,7 +24,7 @@ use Rattle.schema.specs.Answering.{seenRows, seenColumns, entriesOf}
 use Rattle.plan.specs.declared.path.Path.{Path}
 use Rattle.plan.specs.declared.link.Uses.{Uses}
 use Rattle.plan.specs.declared.refusal.BuildRefusal.{BuildRefusal}
-use Rattle.plan.specs.Links.{partsOf, headingsOf, entered, Kept, usedOf, cameTo, linkAll, Follow, Before, After, LinksNode, LinksFields}
+use Rattle.plan.specs.Links.{partsOf, headingsOf, entered, Kept, usedOf, cameTo, linkAll, Follow, Before, After, LinksLeaf, LinksNode, LinksFields}
 use Rattle.plan.proofs.LinkRules.{refused-still}
 
 pub kept-none : (p : Path) → Kept p p
@@ -101,8 +101,7 @@ module _ (read : Schema) (nodes : List NodeEntry) (at : ℕ) (all : nodes ≡ en
     -- a leaf at a place of the table
     module _ (file : Schema) (path inner : Path) (old new : Uses) (l : Leaf) (is : getD nodes at d .body ≡ Primitive l) (from : partsOf inner ≡ partsOf path ++ getD nodes at d .header ∷ []) where
       leaf-visited : (one : Result Unit BuildRefusal) (r : Result ℕ BuildRefusal)
-          → ((earlier : List ColumnOf) (c : ColumnOf) → c .path ≡ headingsOf read (partsOf inner) → length earlier < 64 → linkAll (seenColumns file) [] earlier ≡ Ok (usedOf old)
-          → linkAll (seenColumns file) [] (earlier ++ c ∷ []) ≡ cameTo one new)
+          → LinksLeaf file (headingsOf read (partsOf inner)) old new one
           → cameTo one new ≡ cameTo r new → ((after : List Row) → drop (at + 1) (seenRows read) ≡ after → Follow r read after) → LinksNode file read path old new at r
       unfolding columnsAt
       leaf-visited one r links same follow (leaf h k) after earlier b =
@@ -120,13 +119,11 @@ module _ (read : Schema) (nodes : List NodeEntry) (at : ℕ) (all : nodes ≡ en
           let z : _≡_ {A = ℕ} 0 1 = cc in absurd (omega arith)
 
       pub leaf-refused : (e : BuildRefusal) (r : Result ℕ BuildRefusal)
-          → ((earlier : List ColumnOf) (c : ColumnOf) → c .path ≡ headingsOf read (partsOf inner) → length earlier < 64 → linkAll (seenColumns file) [] earlier ≡ Ok (usedOf old)
-          → linkAll (seenColumns file) [] (earlier ++ c ∷ []) ≡ Err e)
+          → LinksLeaf file (headingsOf read (partsOf inner)) old new (Err e)
           → r ≡ Err e → LinksNode file read path old new at r
       leaf-refused e r links same = leaf-visited (Err e) r links (ap (λ q. cameTo q new) (sym same)) (λ after h. subst (λ q. Follow q read after) (sym same) tt)
 
-      pub leaf-linked : ((earlier : List ColumnOf) (c : ColumnOf) → c .path ≡ headingsOf read (partsOf inner) → length earlier < 64 → linkAll (seenColumns file) [] earlier ≡ Ok (usedOf old)
-          → linkAll (seenColumns file) [] (earlier ++ c ∷ []) ≡ Ok (usedOf new))
+      pub leaf-linked : LinksLeaf file (headingsOf read (partsOf inner)) old new (Ok tt)
           → LinksNode file read path old new at (Ok (at + 1))
       leaf-linked links = leaf-visited (Ok tt) (Ok (at + 1)) links refl (λ after h. h)
 

@@ -14,12 +14,12 @@ use Rattle.basic.specs.declared.types.ConvertedType.{ConvertedType}
 use Rattle.basic.specs.Codes.{repetitionCode}
 use Rattle.schema.specs.declared.entry.Header.{Header}
 use Rattle.schema.specs.declared.tree.Schema.{Schema}
-use Rattle.schema.specs.Schemas.{Heading, Node, Nodes, count}
-use Rattle.schema.specs.Image.{levels, levelsOf}
-use Rattle.schema.specs.Columns.{ColumnOf, columnsAll}
+use Rattle.schema.specs.Schemas.{Heading, Node, Nodes, Tree, count}
+use Rattle.schema.specs.Image.{levels, levelsOf, Within}
+use Rattle.schema.specs.Columns.{ColumnOf, columnsAll, columnsOf}
 use Rattle.schema.specs.Places.{headed}
 use Rattle.schema.specs.Tables.{Row, rows, rowsOf, nodeColumns}
-use Rattle.schema.specs.Answering.{seenRows, seenColumns}
+use Rattle.schema.specs.Answering.{Holds, seenRows, seenColumns}
 use Rattle.plan.specs.declared.kind.FieldKind.{FieldKind}
 use Rattle.plan.specs.declared.path.Path.{Path}
 use Rattle.plan.specs.declared.link.UsedColumn.{UsedColumn}
@@ -40,9 +40,13 @@ sameParts same (x ∷ xs) (y ∷ ys) = same x y && sameParts same xs ys
 abbrev pub names : List Heading → List (List ℕ)
 names path = map (λ h. h .name) path
 
--- the repetitions along some headings
+-- the repetitions along them
 abbrev pub repetitions : List Heading → List Repetition
 repetitions path = map (λ h. h .repetition) path
+
+-- the annotations along them
+abbrev pub annotations : List Heading → List (Option ConvertedType)
+annotations path = map (λ h. h .annotation) path
 
 -- the names along a column's path
 abbrev pub pathNames : ColumnOf → List (List ℕ)
@@ -56,10 +60,13 @@ samePath p q = sameParts sameName p q
 abbrev pub sameRepetition : Repetition → Repetition → Bool
 sameRepetition a b = eqb (repetitionCode a) (repetitionCode b)
 
--- whether one of some columns has this path
-abbrev pub anyOn : List ColumnOf → List (List ℕ) → Bool
-anyOn [] path = false
-anyOn (c ∷ cs) path = samePath (pathNames c) path || anyOn cs path
+-- the last of some annotations, or none where there are none
+abbrev pub lastOf : List (Option ConvertedType) → Option ConvertedType
+lastOf [] = None
+lastOf (a ∷ []) = a
+lastOf (a ∷ b ∷ more) = lastOf (b ∷ more)
+
+-- The lookup.
 
 -- the last of some columns, numbered from n on, with this path; or what was found before them
 abbrev pub lastOn : Option ℕ → ℕ → List ColumnOf → List (List ℕ) → Option ℕ
@@ -79,22 +86,19 @@ abbrev pub Highest : Option ℕ → List ColumnOf → List (List ℕ) → Type 0
 Highest (Some n) columns path = HasPath columns path n × ((k : ℕ) → n < k → HasPath columns path k → ⊥)
 Highest None columns path = (k : ℕ) → HasPath columns path k → ⊥
 
--- the annotations along some headings
-abbrev pub annotations : List Heading → List (Option ConvertedType)
-annotations path = map (λ h. h .annotation) path
+-- Linking, rule by rule.
 
--- the last of some annotations, or none where there are none
-abbrev pub lastOf : List (Option ConvertedType) → Option ConvertedType
-lastOf [] = None
-lastOf (a ∷ []) = a
-lastOf (a ∷ b ∷ more) = lastOf (b ∷ more)
+-- whether one of some columns has this path
+abbrev pub anyOn : List ColumnOf → List (List ℕ) → Bool
+anyOn [] path = false
+anyOn (c ∷ cs) path = samePath (pathNames c) path || anyOn cs path
 
--- a column of this number, shown so
+-- the column of this number, if it has a conversion
 abbrev pub shownAs : ℕ → Option FieldKind → Result UsedColumn BuildRefusal
 shownAs n None = Err NoConversion
 shownAs n (Some kind) = Ok (record { column = n; kind = kind })
 
--- a read path uses the file column of this number if the repetitions along the two are the same and the file column has a conversion
+-- a read path uses a file column if the repetitions along the two are the same and the file's leaf, under its own annotation, has a conversion
 abbrev pub linkWith : List Heading → ℕ → ColumnOf → Result UsedColumn BuildRefusal
 linkWith path n found =
     cond (sameParts sameRepetition (repetitions path) (repetitions (found .path)))
@@ -120,86 +124,7 @@ unfoldable pub linkAll : List ColumnOf → List ColumnOf → List ColumnOf → R
 linkAll file earlier [] = Ok []
 linkAll file earlier (c ∷ cs) = linking (linkOne file earlier c) (λ u. linking (linkAll file (earlier ++ c ∷ []) cs) (λ us. Ok (u ∷ us)))
 
--- no column is used twice
-abbrev pub Distinct : List UsedColumn → Type 0
-Distinct used = (i j : ℕ) → i < j → j < length used → getD (map (λ u. u .column) used) i 0 ≡ getD (map (λ u. u .column) used) j 0 → ⊥
-
--- whether a column is used
-abbrev pub isUsed : List UsedColumn → ℕ → Bool
-isUsed [] n = false
-isUsed (u ∷ us) n = eqb (u .column) n || isUsed us n
-
--- the headers of the path so far
-abbrev pub partsOf : Path → List Header
-partsOf p = take (p .len) (p .headers)
-
--- what the path so far stands for, over the bytes of the read image
-abbrev pub headingsOf : Schema → List Header → List Heading
-headingsOf s hs = map (headed (s .image .now)) hs
-
--- one node longer
-abbrev pub entered : Path → Header → Path
-entered p h = record { headers = set (p .headers) (p .len) h; len = p .len + 1 }
-
--- as long as it was, with the same parts
-pub record Kept (old new : Path) : Type 0 where
-  pub len : new .len ≡ old .len
-  pub parts : partsOf new ≡ partsOf old
-
--- the columns used so far
-abbrev pub usedOf : Uses → List UsedColumn
-usedOf u = take (u .len) (u .columns)
-
--- one column more, where there is room for it
-abbrev pub Pushed : Result Unit BuildRefusal → UsedColumn → Uses → Uses → Type 0
-Pushed (Ok _) used old new = usedOf new ≡ usedOf old ++ used ∷ []
-Pushed (Err e) used old new = 64 ≤ length (usedOf old)
-
--- what a step of linking came to: the columns used by then, or a refusal
-abbrev pub cameTo : {A : Type 0} → Result A BuildRefusal → Uses → Result (List UsedColumn) BuildRefusal
-cameTo (Ok x) uses = Ok (usedOf uses)
-cameTo (Err e) uses = Err e
-
--- the place after a node: these rows follow
-abbrev pub Follow : Result ℕ BuildRefusal → Schema → List Row → Type 0
-Follow (Ok next) read after = drop next (seenRows read) ≡ after
-Follow (Err e) read after = Unit {0}
-
--- before a visit: at this place of the read table stand nodes, each in its depth, and the columns before them are linked
-pub record Before (file read : Schema) (path : Path) (uses : Uses) (at : ℕ) (here after : List Row) (deep : ℕ) (earlier columns : List ColumnOf) : Type 0 where
-  pub stand : drop at (seenRows read) ≡ here ++ after
-  pub flat : path .len + deep ≤ 16
-  pub few : length earlier + length columns ≤ 64
-  pub linked : linkAll (seenColumns file) [] earlier ≡ Ok (usedOf uses)
-
--- after it: their columns are linked too, or refused, and the place after them is answered
-pub record After (file read : Schema) (uses : Uses) (result : Result ℕ BuildRefusal) (after : List Row) (earlier columns : List ColumnOf) : Type 0 where
-  pub linked : linkAll (seenColumns file) [] (earlier ++ columns) ≡ cameTo result uses
-  pub follow : Follow result read after
-
--- the contract of a visit of one node: where one stands, its columns are linked or refused
-abbrev pub LinksNode : Schema → Schema → Path → Uses → Uses → ℕ → Result ℕ BuildRefusal → Type 0
-LinksNode file read path old new at result =
-    (x : Node) (after : List Row) (earlier : List ColumnOf)
-    → Before file read path old at (rows x) after (levels x) earlier (nodeColumns (headingsOf read (partsOf path)) x)
-    → After file read new result after earlier (nodeColumns (headingsOf read (partsOf path)) x)
-
--- the contract of a visit of so many nodes side by side
-abbrev pub LinksFields : Schema → Schema → Path → Uses → Uses → ℕ → ℕ → Result ℕ BuildRefusal → Type 0
-LinksFields file read path old new at n result =
-    (xs : Nodes) (after : List Row) (earlier : List ColumnOf) → count xs ≡ n
-    → Before file read path old at (rowsOf xs) after (levelsOf xs) earlier (columnsAll (headingsOf read (partsOf path)) xs)
-    → After file read new result after earlier (columnsAll (headingsOf read (partsOf path)) xs)
-
--- what linking answers: the columns used, or the refusal
-abbrev pub usesIn : Result Uses BuildRefusal → Result (List UsedColumn) BuildRefusal
-usesIn (Ok uses) = Ok (usedOf uses)
-usesIn (Err e) = Err e
-
--- no column is used twice, where there is no refusal
-abbrev pub DistinctIn : Result Uses BuildRefusal → Type 0
-DistinctIn (Ok uses) = Distinct (usedOf uses)
-DistinctIn (Err e) = Unit {0}
+-- Linking, by meaning.
 
 -- a read column uses a file column: the highest-numbered of its path, which has its repetitions and is shown so
 pub record UsesFor (file : List ColumnOf) (c : ColumnOf) (u : UsedColumn) : Type 0 where
@@ -219,7 +144,100 @@ abbrev pub Apart : List ColumnOf → Type 0
 Apart [] = Unit {0}
 Apart (c ∷ cs) = ((k : ℕ) → HasPath cs (pathNames c) k → ⊥) × Apart cs
 
+-- no column is used twice
+abbrev pub Distinct : List UsedColumn → Type 0
+Distinct used = (i j : ℕ) → i < j → j < length used → getD (map (λ u. u .column) used) i 0 ≡ getD (map (λ u. u .column) used) j 0 → ⊥
+
+-- What the code holds, and its contracts.
+
+-- the headers of the path so far
+abbrev pub partsOf : Path → List Header
+partsOf p = take (p .len) (p .headers)
+
+-- one node longer
+abbrev pub entered : Path → Header → Path
+entered p h = record { headers = set (p .headers) (p .len) h; len = p .len + 1 }
+
+-- as long as it was, with the same parts
+pub record Kept (old new : Path) : Type 0 where
+  pub len : new .len ≡ old .len
+  pub parts : partsOf new ≡ partsOf old
+
+-- what headers stand for, over the bytes of a schema
+abbrev pub headingsOf : Schema → List Header → List Heading
+headingsOf s hs = map (headed (s .image .now)) hs
+
+-- the columns used so far
+abbrev pub usedOf : Uses → List UsedColumn
+usedOf u = take (u .len) (u .columns)
+
+-- whether a column is used
+abbrev pub isUsed : List UsedColumn → ℕ → Bool
+isUsed [] n = false
+isUsed (u ∷ us) n = eqb (u .column) n || isUsed us n
+
+-- one column more, where there is room for it
+abbrev pub Pushed : Result Unit BuildRefusal → UsedColumn → Uses → Uses → Type 0
+Pushed (Ok _) used old new = usedOf new ≡ usedOf old ++ used ∷ []
+Pushed (Err e) used old new = 64 ≤ length (usedOf old)
+
+-- what a step of linking came to: the columns used by then, or a refusal
+abbrev pub cameTo : {A : Type 0} → Result A BuildRefusal → Uses → Result (List UsedColumn) BuildRefusal
+cameTo (Ok x) uses = Ok (usedOf uses)
+cameTo (Err e) uses = Err e
+
+-- what links one leaf: a column of this path, after columns that are linked and leave room, is linked too or refused
+abbrev pub LinksLeaf : Schema → List Heading → Uses → Uses → Result Unit BuildRefusal → Type 0
+LinksLeaf file path old new result =
+    (earlier : List ColumnOf) (c : ColumnOf) → c .path ≡ path → length earlier < 64
+    → linkAll (seenColumns file) [] earlier ≡ Ok (usedOf old) → linkAll (seenColumns file) [] (earlier ++ c ∷ []) ≡ cameTo result new
+
+-- the place after a node: these rows follow
+abbrev pub Follow : Result ℕ BuildRefusal → Schema → List Row → Type 0
+Follow (Ok next) read after = drop next (seenRows read) ≡ after
+Follow (Err e) read after = Unit {0}
+
+-- before a visit: at this place of the read table stand nodes, so many levels deep, and the columns before theirs are linked
+pub record Before (file read : Schema) (path : Path) (uses : Uses) (at : ℕ) (here after : List Row) (deep : ℕ) (earlier columns : List ColumnOf) : Type 0 where
+  pub stand : drop at (seenRows read) ≡ here ++ after
+  pub flat : path .len + deep ≤ 16
+  pub few : length earlier + length columns ≤ 64
+  pub linked : linkAll (seenColumns file) [] earlier ≡ Ok (usedOf uses)
+
+-- after it: their columns are linked too, or refused, and the place after them is answered
+pub record After (file read : Schema) (uses : Uses) (result : Result ℕ BuildRefusal) (after : List Row) (earlier columns : List ColumnOf) : Type 0 where
+  pub linked : linkAll (seenColumns file) [] (earlier ++ columns) ≡ cameTo result uses
+  pub follow : Follow result read after
+
+-- the contract of a visit of one node
+abbrev pub LinksNode : Schema → Schema → Path → Uses → Uses → ℕ → Result ℕ BuildRefusal → Type 0
+LinksNode file read path old new at result =
+    (x : Node) (after : List Row) (earlier : List ColumnOf)
+    → Before file read path old at (rows x) after (levels x) earlier (nodeColumns (headingsOf read (partsOf path)) x)
+    → After file read new result after earlier (nodeColumns (headingsOf read (partsOf path)) x)
+
+-- the contract of a visit of so many nodes side by side
+abbrev pub LinksFields : Schema → Schema → Path → Uses → Uses → ℕ → ℕ → Result ℕ BuildRefusal → Type 0
+LinksFields file read path old new at n result =
+    (xs : Nodes) (after : List Row) (earlier : List ColumnOf) → count xs ≡ n
+    → Before file read path old at (rowsOf xs) after (levelsOf xs) earlier (columnsAll (headingsOf read (partsOf path)) xs)
+    → After file read new result after earlier (columnsAll (headingsOf read (partsOf path)) xs)
+
+-- a statement over the columns of the file and of the read schema, for the schemas within the limits that the two tables hold
+abbrev pub ForHeld : Schema → Schema → (List ColumnOf → List ColumnOf → Type 0) → Type 0
+ForHeld read file P = (t u : Tree) → Within t → Holds read t → Holds file u → P (columnsOf u) (columnsOf t)
+
+-- what linking answers: the columns used, or the refusal
+abbrev pub usesIn : Result Uses BuildRefusal → Result (List UsedColumn) BuildRefusal
+usesIn (Ok uses) = Ok (usedOf uses)
+usesIn (Err e) = Err e
+
 -- by meaning: the paths are apart and each is used as it should be; a refusal says that this cannot be
 abbrev pub Linked : Result Uses BuildRefusal → List ColumnOf → List ColumnOf → Type 0
 Linked (Ok uses) file columns = Apart columns × UseAll file columns (usedOf uses)
 Linked (Err e) file columns = (used : List UsedColumn) → Apart columns → UseAll file columns used → ⊥
+
+-- no column is used twice, where there is no refusal
+abbrev pub DistinctIn : Result Uses BuildRefusal → Type 0
+DistinctIn (Ok uses) = Distinct (usedOf uses)
+DistinctIn (Err e) = Unit {0}

@@ -1,15 +1,12 @@
 // Which file column each read leaf uses.
 ghost use mathlib.Core.Path.{_≡_};
-ghost use mathlib.Core.List.{List, [], _∷_, _++_, map};
-ghost use Prim.Native.Nat.{ℕ, _+_, _<_, _≤_};
-ghost use lib.ListN.{length, take, drop};
+ghost use mathlib.Core.List.{List, [], map};
+ghost use lib.ListN.{length};
 ghost use Rattle.std.specs.declared.result.Result.the-variants.{Ok};
-ghost use Rattle.schema.specs.Schemas.{Tree};
-ghost use Rattle.schema.specs.Image.{Within};
-ghost use Rattle.schema.specs.Columns.{ColumnOf, columnsOf, repetitionOf};
-ghost use Rattle.schema.specs.Answering.{Holds, seenColumns};
+ghost use Rattle.schema.specs.Columns.{ColumnOf, repetitionOf};
+ghost use Rattle.schema.specs.Answering.{seenColumns};
 ghost use Rattle.plan.specs.Forms.{sameName};
-ghost use Rattle.plan.specs.Links.{sameParts, samePath, sameRepetition, names, repetitions, highest, Highest, lastOf, linkOne, linkAll, isUsed, partsOf, headingsOf, usedOf, Pushed, cameTo, Kept, LinksNode, LinksFields, usesIn, Linked, DistinctIn};
+ghost use Rattle.plan.specs.Links.{sameParts, samePath, sameRepetition, names, highest, Highest, lastOf, linkOne, linkAll, isUsed, partsOf, headingsOf, usedOf, Pushed, Kept, LinksLeaf, LinksNode, LinksFields, ForHeld, usesIn, Linked, DistinctIn};
 use crate::kind::FieldKind;
 use crate::kind::shown_kind;
 use crate::path::Path;
@@ -137,7 +134,7 @@ impl Uses {
     /// The columns, in the order of the read leaves.
     pub(crate) fn columns(&self) -> &[UsedColumn]
         ensures used { λ r. ⌜ now r ≡ usedOf (now (self .entry)) ⌝ }
-        ensures table { λ _. ⌜ length (now (self .entry) .columns) ≡ 64 ⌝ }
+        ensures whole_table { λ _. ⌜ length (now (self .entry) .columns) ≡ 64 ⌝ }
     {
         &self.columns[0..self.len.min(MAX_LEAVES)]
     }
@@ -188,6 +185,7 @@ impl Uses {
         let kind = shown_kind(found.leaf, annotation).ok_or(BuildRefusal::NoConversion)?;
         Ok(UsedColumn { column, kind })
     }
+
     /// Links the leaf at the end of a path.
     fn link_leaf(
         &mut self,
@@ -195,7 +193,7 @@ impl Uses {
         path: &Path,
         file: &Schema<'_>,
     ) -> Result<(), BuildRefusal>
-        ensures { λ r. ⌜ ((earlier : List ColumnOf) (c : ColumnOf) → c .path ≡ headingsOf (now (read .entry)) (partsOf (now (path .entry))) → length earlier < 64 → linkAll (seenColumns (now (file .entry))) [] earlier ≡ Ok (usedOf (now (self .entry))) → linkAll (seenColumns (now (file .entry))) [] (earlier ++ c ∷ []) ≡ cameTo r (now (self .exit))) ⌝ }
+        ensures { λ r. ⌜ LinksLeaf (now (file .entry)) (headingsOf (now (read .entry)) (partsOf (now (path .entry)))) (now (self .entry)) (now (self .exit)) r ⌝ }
     {
         let used = self.linked(read, path.headers(), file)?;
         self.push(used)
@@ -252,9 +250,9 @@ impl Uses {
 
 /// The file columns that the leaves of a read schema use, or the first refusal.
 pub(crate) fn link(read: &Schema<'_>, file: &Schema<'_>) -> Result<Uses, BuildRefusal>
-    ensures links { λ r. ⌜ ((t u : Tree) → Within t → Holds (now (read .entry)) t → Holds (now (file .entry)) u → usesIn r ≡ linkAll (columnsOf u) [] (columnsOf t)) ⌝ }
-    ensures links_exactly_what_it_can { λ r. ⌜ ((t u : Tree) → Within t → Holds (now (read .entry)) t → Holds (now (file .entry)) u → Linked r (columnsOf u) (columnsOf t)) ⌝ }
-    ensures uses_distinct_columns { λ r. ⌜ ((t u : Tree) → Within t → Holds (now (read .entry)) t → Holds (now (file .entry)) u → DistinctIn r) ⌝ }
+    ensures links { λ r. ⌜ ForHeld (now (read .entry)) (now (file .entry)) (λ f cs. usesIn r ≡ linkAll f [] cs) ⌝ }
+    ensures links_exactly_what_it_can { λ r. ⌜ ForHeld (now (read .entry)) (now (file .entry)) (λ f cs. Linked r f cs) ⌝ }
+    ensures uses_distinct_columns { λ r. ⌜ ForHeld (now (read .entry)) (now (file .entry)) (λ f cs. DistinctIn r) ⌝ }
 {
     let nodes = read.nodes();
     if nodes.is_empty() {

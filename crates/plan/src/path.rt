@@ -1,6 +1,6 @@
 // The path so far, and the guard that takes it back.
 ghost use mathlib.Core.Path.{_≡_};
-ghost use Prim.Native.Nat.{ℕ, _<_, _≤_};
+ghost use Prim.Native.Nat.{_<_, _≤_};
 ghost use lib.ListN.{length};
 ghost use denote.Ref.{name as refName};
 ghost use mathlib.Core.List.{[], _∷_, _++_};

@@ -9,4 +9,4 @@ pub returns : need.returns
 returns c =
     let all = c .args .self .now .columns in
     let long : length all ≡ 64 = search needs in
-    record { used = ap (λ n. take n all) (sub-zero (c .min .result) ∙ c .min .ensures) ∙ take-min all (c .args .self .now .len) 64 long; table = long }
+    record { used = ap (λ n. take n all) (sub-zero (c .min .result) ∙ c .min .ensures) ∙ take-min all (c .args .self .now .len) 64 long; whole-table = long }

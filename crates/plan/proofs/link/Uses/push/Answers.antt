@@ -11,18 +11,18 @@ returns-then-columns-ge-MAX-LEAVES c = omega (arith, ap length (c .columns .ensu
 
 pub offset-self-self : need.offset-self-self
 offset-self-self c =
-    let lt : c .args .self .now .len < 64 = has-room (c .args .self .now) _ (c .columns .ensures .used) (c .columns .ensures .table) (c .if-columns-ge-MAX-LEAVES .left) in
+    let lt : c .args .self .now .len < 64 = has-room (c .args .self .now) _ (c .columns .ensures .used) (c .columns .ensures .whole-table) (c .if-columns-ge-MAX-LEAVES .left) in
     omega arith
 
 pub index-self-self : need.index-self-self
-index-self-self c = has-room (c .args .self .now) _ (c .columns .ensures .used) (c .columns .ensures .table) (c .if-columns-ge-MAX-LEAVES .left)
+index-self-self c = has-room (c .args .self .now) _ (c .columns .ensures .used) (c .columns .ensures .whole-table) (c .if-columns-ge-MAX-LEAVES .left)
 
 pub add-self : need.add-self
 add-self c =
-    let lt : c .args .self .now .len < 64 = has-room (c .args .self .now) _ (c .columns .ensures .used) (c .columns .ensures .table) (c .if-columns-ge-MAX-LEAVES .left) in
+    let lt : c .args .self .now .len < 64 = has-room (c .args .self .now) _ (c .columns .ensures .used) (c .columns .ensures .whole-table) (c .if-columns-ge-MAX-LEAVES .left) in
     omega arith
 
 pub returns : need.returns
 returns c =
-    let lt : c .args .self .now .len < 64 = has-room (c .args .self .now) _ (c .columns .ensures .used) (c .columns .ensures .table) (c .if-columns-ge-MAX-LEAVES .left) in
-    take-more-set (c .args .self .now .columns) (c .args .self .now .len) (c .args .used) (omega (arith, c .columns .ensures .table))
+    let lt : c .args .self .now .len < 64 = has-room (c .args .self .now) _ (c .columns .ensures .used) (c .columns .ensures .whole-table) (c .if-columns-ge-MAX-LEAVES .left) in
+    take-more-set (c .args .self .now .columns) (c .args .self .now .len) (c .args .used) (omega (arith, c .columns .ensures .whole-table))
