@@ -7,10 +7,16 @@ is to print, to `stdout`.
     image HEX ok NODES COLUMNS COLUMN.. | refused NUMBER
     nodes HEX ok NODE.. | refused NUMBER
     head HEX ok FILE/READ/RECORDS/SIZE/BATCHES | truncated: PART | badform: PART | many records
+    plan HEX BUILD / BUILD ..
 
 HEX is bytes in hexadecimal, `-` for none. A node is its name in hexadecimal, its repetition and its
 annotation with dots between them, and `:group,FIELDS` or `:leaf,TYPE`. A column is the nodes of its path
 with slashes between them, then `:TYPE,LENGTH,SCALE,PRECISION,FLOAT16:MAX DEFINITION:MAX REPETITION`.
+
+The bytes of a plan's case are heads of trace files, each in the place of the batches of the one before it:
+one plan is built from each in turn. A build is `ok` or `refused NUMBER`, then the batch size and the shape of
+the plan as it stands after (nothing, if none was built): an entry is a letter and the number of the read
+node, `v` with `:COLUMN,KIND`, `g` with `:FIELDS`, `o`, `l` and `m` for optional, list and map.
 
 Images are written from trees; what is expected follows from the tree. Images that are refused are made
 by hand, with the refusal beside them. A reader of its own, from the description of the format, has to
@@ -524,8 +530,276 @@ def head_cases():
         yield b"\x00\x00" + number(records), "many records"
 
 
+# Plans: the shape of the rows of a read schema, from a file's.
+
+MAP, MAP_KEY_VALUE, LIST = 2, 3, 4
+COLLECTIONS = (LIST, MAP, MAP_KEY_VALUE)
+# What a type is shown as under each annotation that converts; the others convert under all.
+KINDS = {
+    INT32: {0: 4, 6: 13, 7: 16, 8: 17, 12: 6, 13: 7, 14: 8, 16: 2, 17: 3, 18: 4},
+    INT64: {0: 5, 6: 13, 9: 18, 10: 19, 11: 20, 15: 9, 19: 5},
+    BYTE_ARRAY: {0: 15, 1: 14, 5: 14, 6: 13, 20: 14, 21: 15},
+    FIXED: {0: 15, 6: 13},
+}
+ALWAYS = {0: 1, 3: 19, 4: 11, 5: 12}
+
+
+def kind(annotation, body):
+    if body[0] in ALWAYS:
+        return ALWAYS[body[0]]
+    if body[0] == FIXED and annotation == 0 and body[4]:
+        return 10
+    if annotation not in KINDS[body[0]]:
+        raise Refused(11)
+    return KINDS[body[0]][annotation]
+
+
+def is_group(node):
+    return isinstance(node[3], list)
+
+
+def is_own_element(name, middle):
+    return middle[0] in (b"array", name + b"_tuple")
+
+
+def judge(node):
+    """Refuses a node that breaks a rule of groups, lists or maps, or has one beneath that does."""
+    name, repetition, annotation, fields = node
+    if not is_group(node):
+        return
+    if not fields:
+        raise Refused(4)
+    first = fields[0]
+    inner = first[3] if is_group(first) else []
+    if annotation == LIST:
+        alone = len(fields) == 1 and first[1] == REPEATED
+        if alone and is_group(first) and not inner and not is_own_element(name, first):
+            raise Refused(4)
+        listed = is_group(first) and first[2] in COLLECTIONS
+        if not alone or listed or len(inner) == 1 and inner[0][1] == REPEATED:
+            raise Refused(5)
+    elif annotation in (MAP, MAP_KEY_VALUE):
+        pairs = len(fields) == 1 and first[1] == REPEATED and len(inner) in (1, 2)
+        if not pairs or is_group(inner[0]) or inner[0][1] == REPEATED:
+            raise Refused(6)
+    if repetition == REPEATED and annotation in COLLECTIONS:
+        raise Refused(7)
+    if annotation in COLLECTIONS:
+        if is_group(first) and not inner:
+            raise Refused(4)
+        fields = inner
+    for field in fields:
+        judge(field)
+
+
+class Shaper:
+    """The entries of a shape. Nodes are counted as they are entered, which is in preorder."""
+
+    def __init__(self, file):
+        self.file = [(path, body) for path, body in columns(file[1], [])]
+        self.count, self.path, self.seen = 0, [], []
+
+    def fields(self, number_of_node, nodes):
+        shown = [entry for node in nodes for entry in self.node(node)]
+        return [f"g{number_of_node}:{len(nodes)}"] + shown
+
+    def node(self, node):
+        self.count += 1
+        number_of_node = self.count
+        self.path.append(node)
+        shown = self.required(number_of_node, node)
+        self.path.pop()
+        front = {REQUIRED: [], OPTIONAL: [f"o{number_of_node}"], REPEATED: [f"l{number_of_node}"]}
+        return front[node[1]] + shown
+
+    def required(self, number_of_node, node):
+        name, _, annotation, body = node
+        if not is_group(node):
+            return self.leaf(number_of_node)
+        if annotation not in COLLECTIONS:
+            return self.fields(number_of_node, body)
+        middle = body[0]
+        self.count += 1
+        number_of_middle = self.count
+        self.path.append(middle)
+        form = "l"
+        if annotation == LIST and (
+                not is_group(middle) or len(middle[3]) > 1 or is_own_element(name, middle)):
+            shown = self.required(number_of_middle, middle)
+        else:
+            shown = [entry for field in middle[3] for entry in self.node(field)]
+            form = "m" if annotation != LIST and len(middle[3]) == 2 else "l"
+        self.path.pop()
+        return [f"{form}{number_of_node}"] + shown
+
+    def leaf(self, number_of_node):
+        names = [node[0] for node in self.path]
+        if names in self.seen:
+            raise Refused(8)
+        self.seen.append(names)
+        found = [at for at, (path, _) in enumerate(self.file) if [node[0] for node in path] == names]
+        if not found:
+            raise Refused(9)
+        path, body = self.file[found[-1]]
+        if [node[1] for node in path] != [node[1] for node in self.path]:
+            raise Refused(10)
+        return [f"v{number_of_node}:{found[-1]},{kind(path[-1][2], body)}"]
+
+
+def build(size, file_image, read_image):
+    """The text of the plan; or the refusal is raised."""
+    if not 1 <= size <= 16:
+        raise Refused(1)
+    schemas = []
+    for data in (file_image, read_image or file_image):
+        schemas.append(read(data))
+        if isinstance(schemas[-1], int):
+            raise Refused(schemas[-1])
+    file, (name, nodes) = schemas
+    judge((name, REQUIRED, 0, nodes))
+    return " ".join([f" {size}"] + Shaper(file).fields(0, nodes))
+
+
+def builds(*calls):
+    """The case of builds, one after the other."""
+    data, answers, standing = b"", [], ""
+    for size, file_image, read_image in calls:
+        data += text(file_image) + text(read_image) + number(0) + number(size)
+        try:
+            standing = build(size, file_image, read_image)
+            answers.append("ok" + standing)
+        except Refused as refusal:
+            answers.append(f"refused {refusal}{standing}")
+    return data, " / ".join(answers)
+
+
+def group(name=b"g", repetition=REQUIRED, annotation=0, fields=()):
+    return name, repetition, annotation, list(fields)
+
+
+def plan_schemas():
+    """A file, how it is read (None: as itself), and the refusal expected (0: none)."""
+
+    def same(*nodes):
+        return (b"t", list(nodes)), None
+
+    def two(file, read_as):
+        return (b"t", file), (b"t", read_as)
+
+    a, b, again = leaf(), leaf(name=b"b"), leaf(repetition=REPEATED)
+    pair = [leaf(name=b"k"), leaf(name=b"v", repetition=OPTIONAL)]
+    unconverted = leaf(name=b"u", annotation=1)
+    empty, list_of_two = group(), group(b"l", 0, LIST, [a, b])
+    bad_list, bad_map = group(b"l", 0, LIST, [a]), group(b"m", 0, MAP, [a])
+    repeated_list = group(b"r", REPEATED, LIST, [again])
+
+    def in_list(*fields, name=b"list", annotation=0, repetition=REPEATED, outer=b"x"):
+        return group(outer, REQUIRED, LIST, [group(name, repetition, annotation, fields)])
+
+    def in_map(*fields, annotation=MAP, repetition=REPEATED):
+        return group(b"m", OPTIONAL, annotation, [group(b"key_value", repetition, 0, fields)])
+
+    # the refusals
+    yield same(), 4
+    yield same(empty), 4
+    yield same(a, group(fields=[b, empty])), 4
+    yield same(bad_list), 5
+    yield same(list_of_two), 5
+    yield same(in_list(again)), 5
+    yield same(in_list(a, repetition=OPTIONAL)), 5
+    for annotation in COLLECTIONS:
+        yield same(in_list(a, annotation=annotation)), 5
+    yield same(in_list()), 4
+    yield same(in_list(name=b"array")), 4
+    for annotation in (MAP, MAP_KEY_VALUE):
+        yield same(group(b"m", 0, annotation, [a])), 6
+        yield same(in_map(annotation=annotation)), 6
+    yield same(in_map(*pair, a)), 6
+    yield same(in_map(again)), 6
+    yield same(in_map(group(fields=[a]), b)), 6
+    yield same(in_map(*pair, repetition=REQUIRED)), 6
+    yield same(group(b"m", 0, MAP, [again])), 6
+    yield same(repeated_list), 7
+    yield same(group(b"m", REPEATED, MAP, [group(b"kv", REPEATED, 0, pair)])), 7
+    yield same(a, a), 8
+    yield two([a], [b]), 9
+    yield two([a], [leaf(repetition=OPTIONAL)]), 10
+    yield two([group(fields=[a])], [group(repetition=OPTIONAL, fields=[a])]), 10
+    yield same(unconverted), 11
+    # lists, of two levels and of three
+    yield same(group(b"x", OPTIONAL, LIST, [again])), 0
+    yield same(in_list(a)), 0
+    yield same(in_list(leaf(repetition=OPTIONAL))), 0
+    yield same(in_list(a, b)), 0
+    yield same(in_list(a, name=b"array")), 0
+    yield same(in_list(a, name=b"x_tuple")), 0
+    yield same(in_list(a, name=b"x_tuple", outer=b"y")), 0
+    yield same(in_list(a, name=b"_tuple", outer=b"")), 0
+    yield same(in_list(group(b"y", 0, LIST, [again]))), 0
+    yield same(again, group(repetition=REPEATED, fields=[a, b])), 0
+    # maps
+    yield same(in_map(*pair)), 0
+    yield same(in_map(*pair, annotation=MAP_KEY_VALUE)), 0
+    yield same(in_map(leaf(name=b"k", repetition=OPTIONAL))), 0
+    yield same(in_map(a, leaf(name=b"v", repetition=REPEATED))), 0
+    yield same(in_map(a, group(b"v", OPTIONAL, LIST, [again]))), 0
+    # names and paths
+    yield same(leaf(name=b"a.b"), group(b"a", fields=[b])), 0
+    yield two([a, leaf(body=(INT64, 0, 0, 0, 0)), b], [b, a]), 0
+    yield two([a, leaf(repetition=OPTIONAL)], [a]), 10
+    yield two([unconverted, leaf(name=b"u")], [unconverted]), 0
+    yield two([leaf(annotation=7)], [leaf(annotation=1)]), 0
+    yield two([empty, list_of_two, a], [a]), 0
+    yield HEAP, None, 0
+    yield HEAP, (b"", [HEAP[1][5], HEAP[1][0]]), 0
+    # two refusals at once
+    yield same(group(b"l", 0, LIST)), 4
+    yield same(group(b"l", REPEATED, LIST, [a])), 5
+    yield same(group(b"m", REPEATED, MAP, [a])), 6
+    yield same(group(b"r", REPEATED, LIST, [group(b"list", REPEATED, 0, [empty])])), 7
+    yield same(bad_map, bad_list), 6
+    yield same(group(fields=[bad_map]), empty), 6
+    yield same(repeated_list, empty), 7
+    yield same(unconverted, a, a, bad_list), 5
+    yield two([a], [b, repeated_list]), 7
+    yield two([a], [a, a, b]), 8
+    yield two([a], [a, b, a]), 9
+    yield two([a, unconverted], [leaf(repetition=OPTIONAL), unconverted]), 10
+    yield two([a, unconverted], [unconverted, leaf(repetition=OPTIONAL)]), 11
+    yield two([unconverted], [leaf(name=b"u", repetition=OPTIONAL)]), 10
+    yield two([b], [a, a]), 9
+
+
+def plan_cases():
+    for *schemas, refusal in (([*row[0], row[1]] if len(row) == 2 else row) for row in plan_schemas()):
+        file, read_as = schemas
+        data, found = builds((16, image(file), image(read_as) if read_as else b""))
+        assert found.split(" ")[:2] == (["refused", str(refusal)] if refusal else ["ok", "16"]), (schemas, found)
+        yield data, found
+    # every type under every annotation
+    for physical in range(8):
+        for annotation in range(23):
+            node = leaf(annotation=annotation, body=(physical, 2, 0, 0, annotation % 2))
+            yield builds((1, image((b"t", [node])), b""))
+    yield builds((1, image((b"t", [leaf(body=(FIXED, 2, 0, 0, 1))])), b""))
+    # the batch size before the images, the file's image before the read one, an image before the rules
+    good, empty = image((b"t", [leaf()])), image((b"t", []))
+    bad, long = b"", image((b"t", [leaf()] * 65))
+    for size in (0, 1, 16, 17, LIMIT - 1):
+        yield builds((size, good, good))
+        yield builds((size, bad, long))
+    for file, read_as in ((bad, long), (long, b"\x80"), (good, long), (good, b"\x80"), (long, empty), (empty, long)):
+        yield builds((3, file, read_as))
+    # one plan built again; a refusal leaves it as it was
+    other = image(HEAP)
+    yield builds((2, good, b""), (3, other, b""), (16, other, image((b"", HEAP[1][:1]))))
+    yield builds((0, good, b""), (2, good, b""))
+    for size, file, read_as in ((0, good, b""), (1, bad, good), (1, good, long), (1, good, empty), (1, good, other)):
+        yield builds((9, other, b""), (size, file, read_as), (size, file, read_as), (4, good, b""))
+
+
 GROUPS = {"utf8": utf8_cases, "number": number_cases, "image": image_cases, "nodes": nodes_cases,
-          "head": head_cases}
+          "head": head_cases, "plan": plan_cases}
 
 
 def main():

@@ -16,6 +16,9 @@ use Rattle.schema.specs.declared.entry.Leaf.{Leaf}
 use Rattle.schema.specs.declared.refusal.ImageRefusal.{ImageRefusal}
 use Rattle.schema.specs.declared.refusal.ImageRefusal.the-variants.{Malformed, Limit}
 use Rattle.schema.specs.Refusals.{refusalNumber}
+use Rattle.plan.specs.declared.refusal.BuildRefusal.{BuildRefusal}
+use Rattle.plan.specs.declared.refusal.BuildRefusal.the-variants.{BatchSize, Image, EmptyGroup, BadList, BadMap, RepeatedCollection, PathAgain, PathMissing, RepetitionDiffers, NoConversion}
+use Rattle.plan.specs.Refusals.{refusalNumber as buildRefusalNumber}
 
 -- A number of things: "1 node", "2 nodes".
 abbrev pub countText : ℕ → List ℕ → List ℕ
@@ -48,3 +51,25 @@ reasonText Limit = codes "the file image passes a limit: 256 nodes, 64 leaves, 1
 -- The line of a refused image: the refusal's number, no column and no place, and the reason.
 abbrev pub refusedLine : ImageRefusal → List ℕ
 refusedLine e = codes "refused " ++ (decimal (refusalNumber e) ++ (codes " 0 0: " ++ (reasonText e ++ codes "\n")))
+
+-- Why one of a plan's two images is refused, in words.
+abbrev pub imageReasonText : ImageRefusal → List ℕ
+imageReasonText Malformed = codes "an image ends inside, has bytes over, or has a number, a code or a name in bad form"
+imageReasonText Limit = codes "an image passes a limit: 256 nodes, 64 leaves, 16 levels, 255 bytes of a name, 2^31 - 1 of a length, scale or precision"
+
+-- Why a plan is refused, in words.
+abbrev pub buildReasonText : BuildRefusal → List ℕ
+buildReasonText BatchSize = codes "the batch size is not 1 to 16"
+buildReasonText (Image e) = imageReasonText e
+buildReasonText EmptyGroup = codes "a read group has no fields"
+buildReasonText BadList = codes "a LIST group is no list"
+buildReasonText BadMap = codes "a MAP or MAP_KEY_VALUE group is no map"
+buildReasonText RepeatedCollection = codes "a group annotated LIST, MAP or MAP_KEY_VALUE is REPEATED and no list's or map's middle"
+buildReasonText PathAgain = codes "a read leaf has the path of an earlier one"
+buildReasonText PathMissing = codes "no file column has the path of a read leaf"
+buildReasonText RepetitionDiffers = codes "the repetition of a node on a read leaf's path differs from the file's"
+buildReasonText NoConversion = codes "a used file column has no conversion"
+
+-- The line of a refused plan: the refusal's number, no column and no place, and the reason.
+abbrev pub buildRefusedLine : BuildRefusal → List ℕ
+buildRefusedLine e = codes "refused " ++ (decimal (buildRefusalNumber e) ++ (codes " 0 0: " ++ (buildReasonText e ++ codes "\n")))

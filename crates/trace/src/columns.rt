@@ -44,7 +44,7 @@ pub(crate) fn report(heap: Global, file: &[u8]) -> Result<String, AllocError> {
 }
 
 /// The line of a file that is no trace. One that is too long was not read to its end.
-fn no_trace(heap: Global, error: HeadError, len: usize) -> Result<String, AllocError> {
+pub(crate) fn no_trace(heap: Global, error: HeadError, len: usize) -> Result<String, AllocError> {
     match error {
         HeadError::TooLong => format!(heap, "trace: {error}\n"),
         _ => format!(heap, "trace: {error} (file of {len} bytes)\n"),
@@ -177,7 +177,7 @@ fn annotation_text(heap: Global, column: &Column) -> Result<String, AllocError> 
 }
 
 /// How many of a thing there are.
-fn counted(heap: Global, count: usize, thing: &str) -> Result<String, AllocError>
+pub(crate) fn counted(heap: Global, count: usize, thing: &str) -> Result<String, AllocError>
     ensures { λ r. ⌜ made r (λ s. string-bytes s ≡ countText count (now (thing .entry))) ⌝ }
 {
     let ending = if count == 1 { "" } else { "s" };

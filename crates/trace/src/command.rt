@@ -6,6 +6,8 @@ use std::fmt;
 pub enum Command {
     /// The columns of the file.
     Columns,
+    /// The shape of the file's rows.
+    Shape,
 }
 
 /// Why the words are no command.
@@ -23,6 +25,7 @@ impl Command {
         match words {
             [word] => match word.as_str() {
                 "columns" => Ok(Command::Columns),
+                "shape" => Ok(Command::Shape),
                 name => Err(CommandError::Unknown(name)),
             },
             _ => Err(CommandError::Usage),
@@ -33,9 +36,9 @@ impl Command {
 pub impl fmt::Display for CommandError<'_> as CommandErrorDisplay {
     fn fmt<W: fmt::Write>(&self, f: &mut fmt::Formatter<W>) -> fmt::Result {
         match *self {
-            CommandError::Usage => f.pad("usage: trace columns < FILE"),
+            CommandError::Usage => f.pad("usage: trace columns|shape < FILE"),
             CommandError::Unknown(name) => {
-                write!(f, "trace: unknown command {name:?}; known: columns")
+                write!(f, "trace: unknown command {name:?}; known: columns, shape")
             }
         }
     }

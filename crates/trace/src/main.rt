@@ -2,9 +2,9 @@
 mod columns;
 mod command;
 mod escape;
+mod shape;
 mod table;
 
-use crate::columns::report;
 use crate::command::Command;
 use crate::command::CommandErrorDisplay;
 use std::env;
@@ -27,7 +27,11 @@ fn main(rt: LibcRuntime) -> io::Result<()> {
     match Command::parse(words.as_slice()) {
         Ok(Command::Columns) => {
             let bytes = input(&rt)?;
-            rt.print(report(heap, bytes.as_slice())?)
+            rt.print(columns::report(heap, bytes.as_slice())?)
+        }
+        Ok(Command::Shape) => {
+            let bytes = input(&rt)?;
+            rt.print(shape::report(heap, bytes.as_slice())?)
         }
         Err(error) => rt.println(error),
     }

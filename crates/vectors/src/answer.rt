@@ -5,6 +5,9 @@ use basic::Code;
 use basic::FlagCode;
 use basic::PhysicalTypeCode;
 use basic::RepetitionCode;
+use plan::Form;
+use plan::Plan;
+use plan::ShapeEntry;
 use schema::Body;
 use schema::Column;
 use schema::Header;
@@ -29,6 +32,7 @@ pub(crate) fn answer(heap: Global, group: Group, bytes: &[u8]) -> Result<String,
         Group::Image => image_text(heap, bytes),
         Group::Nodes => nodes_text(heap, bytes),
         Group::Head => head_text(heap, bytes),
+        Group::Plan => plan_text(heap, bytes),
     }
 }
 
@@ -193,4 +197,77 @@ fn parts_text(heap: Global, head: &Head<'_>) -> Result<String, AllocError> {
     text.push_str(format!(heap, "/{records}/{size}/")?.as_str())?;
     push_hex(heap, &mut text, head.batches)?;
     Ok(text)
+}
+
+/// What came of each build of one plan, and how the plan stands after it. The builds are heads of trace files, each
+/// in the place of the batches of the one before it.
+fn plan_text(heap: Global, bytes: &[u8]) -> Result<String, AllocError> {
+    let mut text = String::new(heap);
+    let mut plan = Plan::new();
+    let mut rest = bytes;
+    for _ in 0..bytes.len() {
+        let Ok(head) = Head::read(rest) else {
+            return String::from_str(heap, "no head");
+        };
+        match plan.build(head.batch_size, head.file_image, head.read_image) {
+            Ok(()) => text.push_str("ok")?,
+            Err(refusal) => {
+                let number = refusal.number();
+                text.push_str(format!(heap, "refused {number}")?.as_str())?;
+            }
+        }
+        push_plan(heap, &mut text, &plan)?;
+        rest = head.batches;
+        if rest.is_empty() {
+            break;
+        }
+        text.push_str(" / ")?;
+    }
+    Ok(text)
+}
+
+/// Adds a plan's batch size and each entry of its shape.
+fn push_plan(heap: Global, text: &mut String, plan: &Plan) -> Result<(), AllocError> {
+    if let Some(size) = plan.batch_size() {
+        text.push_str(format!(heap, " {size}")?.as_str())?;
+    }
+    for entry in plan.shape() {
+        text.push(' ')?;
+        push_place(heap, text, plan, entry)?;
+    }
+    Ok(())
+}
+
+/// Adds an entry: its form's letter, its node, and a group's number of fields or a leaf's column and kind.
+fn push_place(
+    heap: Global,
+    text: &mut String,
+    plan: &Plan,
+    entry: &ShapeEntry,
+) -> Result<(), AllocError> {
+    let node = entry.node;
+    let place = match entry.form {
+        Form::Leaf => return push_value(heap, text, plan, entry),
+        Form::Optional => format!(heap, "o{node}")?,
+        Form::Group(fields) => format!(heap, "g{node}:{fields}")?,
+        Form::List => format!(heap, "l{node}")?,
+        Form::Map => format!(heap, "m{node}")?,
+    };
+    text.push_str(place.as_str())
+}
+
+/// Adds a leaf's entry.
+fn push_value(
+    heap: Global,
+    text: &mut String,
+    plan: &Plan,
+    entry: &ShapeEntry,
+) -> Result<(), AllocError> {
+    let node = entry.node;
+    let Some(used) = plan.used().get(entry.leaf as usize) else {
+        return text.push_str("unused");
+    };
+    let column = used.column;
+    let kind = used.kind.number();
+    text.push_str(format!(heap, "v{node}:{column},{kind}")?.as_str())
 }

@@ -18,15 +18,18 @@ pub enum Group {
     Nodes,
     /// The parts of a trace file.
     Head,
+    /// The plan that builds, one after the other, leave.
+    Plan,
 }
 
 /// All groups, in the order of the report.
-pub(crate) const GROUPS: [Group; 5] = [
+pub(crate) const GROUPS: [Group; 6] = [
     Group::Utf8,
     Group::Number,
     Group::Image,
     Group::Nodes,
     Group::Head,
+    Group::Plan,
 ];
 
 impl Group {
@@ -38,6 +41,7 @@ impl Group {
             Group::Image => "image",
             Group::Nodes => "nodes",
             Group::Head => "head",
+            Group::Plan => "plan",
         }
     }
 

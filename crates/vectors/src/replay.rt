@@ -48,6 +48,7 @@ struct Report {
     image: Tally,
     nodes: Tally,
     head: Tally,
+    plan: Tally,
     all: Tally,
     failures: String,
 }
@@ -60,6 +61,7 @@ impl Report {
             image: Tally::none(),
             nodes: Tally::none(),
             head: Tally::none(),
+            plan: Tally::none(),
             all: Tally::none(),
             failures: String::new(heap),
         }
@@ -72,6 +74,7 @@ impl Report {
             Group::Image => self.image,
             Group::Nodes => self.nodes,
             Group::Head => self.head,
+            Group::Plan => self.plan,
         }
     }
 
@@ -82,6 +85,7 @@ impl Report {
             Group::Image => self.image.add(is_expected),
             Group::Nodes => self.nodes.add(is_expected),
             Group::Head => self.head.add(is_expected),
+            Group::Plan => self.plan.add(is_expected),
         }
         self.all.add(is_expected);
     }
