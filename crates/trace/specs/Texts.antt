@@ -15,10 +15,9 @@ use Rattle.basic.specs.Names.{physicalName, convertedName}
 use Rattle.schema.specs.declared.entry.Leaf.{Leaf}
 use Rattle.schema.specs.declared.refusal.ImageRefusal.{ImageRefusal}
 use Rattle.schema.specs.declared.refusal.ImageRefusal.the-variants.{Malformed, Limit}
-use Rattle.schema.specs.Refusals.{refusalNumber}
 use Rattle.plan.specs.declared.refusal.BuildRefusal.{BuildRefusal}
 use Rattle.plan.specs.declared.refusal.BuildRefusal.the-variants.{BatchSize, Image, EmptyGroup, BadList, BadMap, RepeatedCollection, PathAgain, PathMissing, RepetitionDiffers, NoConversion}
-use Rattle.plan.specs.Refusals.{refusalNumber as buildRefusalNumber}
+use Rattle.plan.specs.Refusals.{refusalNumber}
 
 -- A number of things: "1 node", "2 nodes".
 abbrev pub countText : ℕ → List ℕ → List ℕ
@@ -43,33 +42,24 @@ float16Text is = cond is (codes " Float16") []
 abbrev pub typeText : Leaf → List ℕ
 typeText l = physicalName (l .physical) ++ (lengthText (l .physical) (l .length) ++ float16Text (l .float16))
 
--- Why an image is refused, in words.
-abbrev pub reasonText : ImageRefusal → List ℕ
-reasonText Malformed = codes "the file image ends inside, has bytes over, or has a number, a code or a name in bad form"
-reasonText Limit = codes "the file image passes a limit: 256 nodes, 64 leaves, 16 levels, 255 bytes of a name, 2^31 - 1 of a length, scale or precision"
+-- Why a schema image is refused, in words.
+abbrev pub imageReason : ImageRefusal → List ℕ
+imageReason Malformed = codes "a schema image ends inside, has bytes over, or has a number, a code or a name in bad form"
+imageReason Limit = codes "a schema image passes a limit: 256 nodes, 64 leaves, 16 levels, 255 bytes of a name, 2^31 - 1 of a length, scale or precision"
 
--- The line of a refused image: the refusal's number, no column and no place, and the reason.
-abbrev pub refusedLine : ImageRefusal → List ℕ
-refusedLine e = codes "refused " ++ (decimal (refusalNumber e) ++ (codes " 0 0: " ++ (reasonText e ++ codes "\n")))
+-- Why a plan, or an image by itself, is refused, in words.
+abbrev pub reasonOf : BuildRefusal → List ℕ
+reasonOf BatchSize = codes "the batch size is not 1 to 16"
+reasonOf (Image e) = imageReason e
+reasonOf EmptyGroup = codes "a read group has no fields"
+reasonOf BadList = codes "a LIST group is no list"
+reasonOf BadMap = codes "a MAP or MAP_KEY_VALUE group is no map"
+reasonOf RepeatedCollection = codes "a group annotated LIST, MAP or MAP_KEY_VALUE is REPEATED and no list's or map's middle"
+reasonOf PathAgain = codes "a read leaf has the path of an earlier one"
+reasonOf PathMissing = codes "no file column has the path of a read leaf"
+reasonOf RepetitionDiffers = codes "the repetition of a node on a read leaf's path differs from the file's"
+reasonOf NoConversion = codes "a used file column has no conversion"
 
--- Why one of a plan's two images is refused, in words.
-abbrev pub imageReasonText : ImageRefusal → List ℕ
-imageReasonText Malformed = codes "an image ends inside, has bytes over, or has a number, a code or a name in bad form"
-imageReasonText Limit = codes "an image passes a limit: 256 nodes, 64 leaves, 16 levels, 255 bytes of a name, 2^31 - 1 of a length, scale or precision"
-
--- Why a plan is refused, in words.
-abbrev pub buildReasonText : BuildRefusal → List ℕ
-buildReasonText BatchSize = codes "the batch size is not 1 to 16"
-buildReasonText (Image e) = imageReasonText e
-buildReasonText EmptyGroup = codes "a read group has no fields"
-buildReasonText BadList = codes "a LIST group is no list"
-buildReasonText BadMap = codes "a MAP or MAP_KEY_VALUE group is no map"
-buildReasonText RepeatedCollection = codes "a group annotated LIST, MAP or MAP_KEY_VALUE is REPEATED and no list's or map's middle"
-buildReasonText PathAgain = codes "a read leaf has the path of an earlier one"
-buildReasonText PathMissing = codes "no file column has the path of a read leaf"
-buildReasonText RepetitionDiffers = codes "the repetition of a node on a read leaf's path differs from the file's"
-buildReasonText NoConversion = codes "a used file column has no conversion"
-
--- The line of a refused plan: the refusal's number, no column and no place, and the reason.
-abbrev pub buildRefusedLine : BuildRefusal → List ℕ
-buildRefusedLine e = codes "refused " ++ (decimal (buildRefusalNumber e) ++ (codes " 0 0: " ++ (buildReasonText e ++ codes "\n")))
+-- The line of a refusal: its number, no column and no place, and the reason.
+abbrev pub refusedLine : BuildRefusal → List ℕ
+refusedLine e = codes "refused " ++ (decimal (refusalNumber e) ++ (codes " 0 0: " ++ (reasonOf e ++ codes "\n")))

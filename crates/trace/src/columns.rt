@@ -2,16 +2,17 @@
 ghost use mathlib.Core.Path.{_≡_};
 ghost use Rattle.std.specs.Of.String.{string-bytes};
 ghost use Rattle.std.specs.Vec.{made};
-ghost use Rattle.trace.specs.Texts.{countText, float16Text, typeText, reasonText, refusedLine};
+ghost use Rattle.trace.specs.Texts.{countText, float16Text, typeText};
 use crate::escape::push_name;
+use crate::refusal::refused;
 use crate::table::Table;
 use basic::ConvertedType;
 use basic::ConvertedTypeDisplay;
 use basic::PhysicalType;
 use basic::PhysicalTypeDisplay;
+use plan::BuildRefusal;
 use schema::Column;
 use schema::ColumnPath;
-use schema::ImageRefusal;
 use schema::Leaf;
 use schema::Schema;
 use std::alloc::AllocError;
@@ -39,7 +40,7 @@ pub(crate) fn report(heap: Global, file: &[u8]) -> Result<String, AllocError> {
     let mut schema = Schema::new();
     match schema.read(head.file_image) {
         Ok(()) => listing(heap, &head, &schema),
-        Err(refusal) => refused(heap, refusal),
+        Err(refusal) => refused(heap, BuildRefusal::Image(refusal)),
     }
 }
 
@@ -49,29 +50,6 @@ pub(crate) fn no_trace(heap: Global, error: HeadError, len: usize) -> Result<Str
         HeadError::TooLong => format!(heap, "trace: {error}\n"),
         _ => format!(heap, "trace: {error} (file of {len} bytes)\n"),
     }
-}
-
-/// Why an image is refused, in words.
-fn reason(refusal: ImageRefusal) -> &'static str
-    ensures { λ r. ⌜ now r ≡ reasonText refusal ⌝ }
-{
-    match refusal {
-        ImageRefusal::Malformed => {
-            "the file image ends inside, has bytes over, or has a number, a code or a name in bad form"
-        }
-        ImageRefusal::Limit => {
-            "the file image passes a limit: 256 nodes, 64 leaves, 16 levels, 255 bytes of a name, 2^31 - 1 of a length, scale or precision"
-        }
-    }
-}
-
-/// The line of a refused image.
-fn refused(heap: Global, refusal: ImageRefusal) -> Result<String, AllocError>
-    ensures { λ r. ⌜ made r (λ s. string-bytes s ≡ refusedLine refusal) ⌝ }
-{
-    let number = refusal.number();
-    let reason = reason(refusal);
-    format!(heap, "refused {number} 0 0: {reason}\n")
 }
 
 /// The table of the columns, and the closing line.

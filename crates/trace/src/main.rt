@@ -2,6 +2,7 @@
 mod columns;
 mod command;
 mod escape;
+mod refusal;
 mod shape;
 mod table;
 
