@@ -1,5 +1,5 @@
 -- How a plan is built from two images. Assumes nothing.
-use Rattle.std.proofs.Common.{◌≡◌, ℕ, ◌<◌, ◌≤◌, true, false, leb, ◌⊎◌, List, Ok, Err, Result, sym, refl, ap, ◌∙◌, subst, inr, ⊎_elim, arith}
+use Rattle.std.proofs.Common.{◌≡◌, ℕ, ◌<◌, ◌≤◌, true, false, leb, ◌⊎◌, List, Ok, Err, Result, sym, refl, ap, ◌∙◌, subst, ⊎_elim, arith}
 use Rattle.std.proofs.lemmas.Bool.{and_from, and_left, and_right, le-leb, lt-leb}
 use Rattle.schema.specs.declared.refusal.ImageRefusal.{ImageRefusal}
 use Rattle.schema.specs.declared.tree.Schema.{Schema}
@@ -8,18 +8,16 @@ use Rattle.schema.specs.Image.{image, Within}
 use Rattle.schema.specs.Reading.{schema_in}
 use Rattle.schema.specs.Answering.{Holds, Accepted}
 use Rattle.schema.proofs.Laws.{reads_image}
-use Rattle.plan.specs.declared.parts.PlanParts.{PlanParts}
+use Rattle.plan.specs.declared.build.Plan.{Plan}
 use Rattle.plan.specs.declared.refusal.BuildRefusal.{BuildRefusal}
 use Rattle.plan.specs.declared.refusal.BuildRefusal.TheVariants.{BatchSize, Image}
 use Rattle.plan.specs.Samples.{ShapeExamples}
-use Rattle.plan.specs.LinkSamples.{LinkExamples, BuildExamples}
-use Rattle.plan.specs.Building.{read_or, is_batch_size, plan_of, build_in, Made, PlannedAs, MeantFor, Built, Imaged, Refuses, Means}
+use Rattle.plan.specs.Building.{read_or, is_batch_size, plan_of, build_in, PlannedAs, MeantFor, Built, Imaged, NoPlanFor, NamesBroken, Means}
 use Rattle.plan.proofs.Samples.{shape_examples}
-use Rattle.plan.proofs.LinkSamples.{link_examples, build_examples}
 
--- the clauses of building
-abbrev Answer : Result Unit BuildRefusal → ℕ → List ℕ → List ℕ → PlanParts → PlanParts → Type 0
-Answer r k file read old new = record { builds : Built r k file read old new; builds_exactly_where_it_can : Means r k file read new; worked_examples : BuildExamples; worked_shapes : ShapeExamples; worked_links : LinkExamples }
+-- the three clauses of building
+abbrev Answer : Result Unit BuildRefusal → ℕ → List ℕ → List ℕ → Plan → Plan → Type 0
+Answer r k file read old new = record { builds : Built r k file read old new; builds_exactly_where_it_can : Means r k file read new; worked_examples : ShapeExamples }
 
 -- the schema that an image was read as
 pub record ReadAs (bytes : List ℕ) (s : Schema) (t : Tree) : Type 0 where
@@ -46,19 +44,17 @@ read_as bytes given s same a =
 size_wrong : (k : ℕ) → (k ≡ 0) ⊎ (16 < k) → is_batch_size k ≡ false
 size_wrong k c = ⊎_elim (λ z. and_left (leb 1 k) (leb k 16) (lt-leb 1 k (omega arith))) (λ m. and_right (leb 1 k) (leb k 16) (lt-leb k 16 m)) c
 
-pub batch_refused : (k : ℕ) (file read : List ℕ) (old : PlanParts) → (k ≡ 0) ⊎ (16 < k) → Answer (Err BatchSize) k file read old old
+pub batch_refused : (k : ℕ) (file read : List ℕ) (old : Plan) → (k ≡ 0) ⊎ (16 < k) → Answer (Err BatchSize) k file read old old
 unfolding build_in
 batch_refused k file read old c =
     record {
       builds = (let w = size_wrong k c in rw w, refl);
       builds_exactly_where_it_can = λ f t im. absurd (⊎_elim (λ z. omega (arith, im.least)) (λ m. omega (arith, im.most)) c);
-      worked_examples = build_examples;
-      worked_shapes = shape_examples;
-      worked_links = link_examples;
+      worked_examples = shape_examples;
     }
 
 -- the batch size is right
-module _ (k : ℕ) (file read : List ℕ) (old : PlanParts) (least : k ≡ 0 → ⊥) (most : k ≤ 16) where
+module _ (k : ℕ) (file read : List ℕ) (old : Plan) (least : k ≡ 0 → ⊥) (most : k ≤ 16) where
   size_right : is_batch_size k ≡ true
   size_right = and_from (leb 1 k) (leb k 16) (le-leb 1 k (omega arith)) (le-leb k 16 most)
 
@@ -68,9 +64,7 @@ module _ (k : ℕ) (file read : List ℕ) (old : PlanParts) (least : k ≡ 0 →
       record {
         builds = (let right = size_right in rw right (rw h), refl);
         builds_exactly_where_it_can = λ f t im. absurd (no-image f im.file_within im.file_image);
-        worked_examples = build_examples;
-        worked_shapes = shape_examples;
-        worked_links = link_examples;
+        worked_examples = shape_examples;
       }
 
   module _ (sf : Schema) (f : Tree) (rf : ReadAs file sf f) where
@@ -83,19 +77,13 @@ module _ (k : ℕ) (file read : List ℕ) (old : PlanParts) (least : k ≡ 0 →
         record {
           builds = (rw right (rw first (rw there)), refl);
           builds_exactly_where_it_can = λ g t im. absurd (no-image t im.read_within (im.read_image ∙ sym same));
-          worked_examples = build_examples;
-          worked_shapes = shape_examples;
-          worked_links = link_examples;
+          worked_examples = shape_examples;
         }
 
     module _ (sr : Schema) (t : Tree) (rt : ReadAs (read_or file read) sr t) where
       by_plan : build_in k file read ≡ plan_of k f t
       unfolding build_in
       by_plan = let right = size_right in let first = rf.read in let second = rt.read in rw right (rw first (rw second))
-
-      -- what is planned is a plan
-      pub plan_made : (new : PlanParts) → PlannedAs (Ok new) (plan_of k f t) → Made new
-      plan_made new planned = ∣ inr (k, file, read, planned.0, by_plan ∙ planned.1, planned.2) ∣₁
 
       pub plan_refused : (r : Result Unit BuildRefusal) (y x : BuildRefusal) → r ≡ Err y → y ≡ x → PlannedAs (Err x) (plan_of k f t) → MeantFor (Err x) f t → Answer r k file read old old
       plan_refused r y x p q planned meant =
@@ -105,13 +93,11 @@ module _ (k : ℕ) (file read : List ℕ) (old : PlanParts) (least : k ≡ 0 →
             builds_exactly_where_it_can = λ g u im.
                 let one = rt.only u im.read_within im.read_image in
                 let two = rf.only g im.file_within im.file_image in
-                subst (λ v. Refuses y v u) (sym two) (subst (λ v. Refuses y f v) (sym one) (subst (λ e. Refuses e f t) (sym q) meant));
-            worked_examples = build_examples;
-            worked_shapes = shape_examples;
-            worked_links = link_examples;
+                subst (λ v. NoPlanFor v u × NamesBroken y u) (sym two) (subst (λ v. NoPlanFor f v × NamesBroken y v) (sym one) (meant.0, λ o broken. meant.1 o broken ∙ sym q));
+            worked_examples = shape_examples;
           })
 
-      pub plan_built : (new : PlanParts) → PlannedAs (Ok new) (plan_of k f t) → MeantFor (Ok new) f t → Answer (Ok tt) k file read old new
+      pub plan_built : (new : Plan) → PlannedAs (Ok new) (plan_of k f t) → MeantFor (Ok new) f t → Answer (Ok tt) k file read old new
       plan_built new planned meant =
           record {
             builds = (planned.0, by_plan ∙ planned.1, planned.2);
@@ -121,7 +107,5 @@ module _ (k : ℕ) (file read : List ℕ) (old : PlanParts) (least : k ≡ 0 →
               record { least = omega arith; most = most; file_within = rf.within; file_image = rf.is; read_within = rt.within; read_image = rt.is },
               meant,
             );
-            worked_examples = build_examples;
-            worked_shapes = shape_examples;
-            worked_links = link_examples;
+            worked_examples = shape_examples;
           }

@@ -27,5 +27,4 @@ pub mod LinkMeaning
 pub mod PoolNames
 pub mod ColumnsListed
 pub mod Planning
-pub mod LinkSamples
 pub mod Builds

@@ -1,26 +1,29 @@
 -- How a plan is made of two schemas. Assumes nothing.
 use Rattle.std.proofs.Common.{◌≡◌, ℕ, ◌≤◌, true, List, [], ◌∷◌, ◌++◌, map, length, take, Ok, Err, Result, sym, refl, ap, ◌∙◌, subst, take_all}
 use Rattle.std.proofs.lemmas.List.{map-append}
+use Rattle.schema.specs.declared.entry.Header.{Header}
+use Rattle.schema.specs.declared.column.Column.{Column}
 use Rattle.schema.specs.declared.tree.Schema.{Schema}
 use Rattle.schema.specs.Schemas.{Heading, Node, leaf, group, Nodes, none, more, Tree}
 use Rattle.schema.specs.Image.{FitsName, Fits, FitsAll, Within}
-use Rattle.schema.specs.Columns.{columns_of}
-use Rattle.schema.specs.Tables.{Row, rows, rows_of}
-use Rattle.schema.specs.Answering.{Holds, tree_rows, seen_rows}
-use Rattle.plan.specs.declared.parts.PlanParts.{PlanParts}
+use Rattle.schema.specs.Columns.{columns_of, parts}
+use Rattle.schema.specs.Places.{headed}
+use Rattle.schema.specs.Tables.{Row, rows, rows_of, column_read}
+use Rattle.schema.specs.Answering.{Holds, tree_rows, seen_rows, columns_in}
+use Rattle.plan.specs.declared.build.Plan.{Plan}
 use Rattle.plan.specs.declared.columns.FileColumn.{FileColumn}
 use Rattle.plan.specs.declared.link.Uses.{Uses}
 use Rattle.plan.specs.declared.link.UsedColumn.{UsedColumn}
 use Rattle.plan.specs.declared.refusal.BuildRefusal.{BuildRefusal}
 use Rattle.plan.specs.Shapes.{Shape}
 use Rattle.plan.specs.Forms.{Formed, shape_in}
-use Rattle.plan.specs.Meaning.{Broken, root}
+use Rattle.plan.specs.Meaning.{ShapeOf, ShapeIsMeant}
 use Rattle.plan.specs.Flat.{flat, held, ShapeHeld}
-use Rattle.plan.specs.Links.{link_all, used_of, uses_in, Linked, DistinctIn, UseAll, Apart, FirstDenied}
-use Rattle.plan.specs.FileColumns.{file_column, listed}
+use Rattle.plan.specs.Links.{last_of, link_all, used_of, uses_in, Linked, DistinctIn, UseAll, Apart}
+use Rattle.plan.specs.FileColumns.{file_column, file_column_of, listed}
 use Rattle.plan.specs.Pool.{short_name, names_held}
-use Rattle.plan.specs.Building.{Planned, plan_of, tree_names, PlanHeld, PlannedAs, PlanFor, NoPlanFor, rule_is_broken, leaf_denied, MeantFor}
-use Rattle.plan.proofs.ShapeLaw.{ShapeIsMeant, shape_meant}
+use Rattle.plan.specs.Building.{Planned, plan_of, tree_names, PlanHeld, PlannedAs, PlanFor, NoPlanFor, MeantFor}
+use Rattle.plan.proofs.ShapeLaw.{shape_meant}
 
 -- a name that fits is not cut
 short_fits : (name : List ℕ) → FitsName name → short_name name ≡ name
@@ -48,40 +51,50 @@ mutual
 pub names_kept : (read : Schema) (t : Tree) → Within t → Holds read t → map cut (seen_rows read) ≡ tree_names t
 names_kept read t w h = ap (map cut) h.nodes ∙ (λ i. short_fits t.name w.named i ∷ names_all t.fields w.fitting i)
 
+-- the file columns of a table are those of its schema
+same-annotations : (bytes : List ℕ) (hs : List Header) → map (λ h. h.annotation) hs ≡ map (λ h. h.annotation) (map (headed bytes) hs)
+same-annotations bytes [] = refl
+same-annotations bytes (h ∷ hs) = ap (λ l. h.annotation ∷ l) (same-annotations bytes hs)
+
+same-column : (bytes : List ℕ) (c : Column) → file_column c ≡ file_column_of (column_read bytes c)
+same-column bytes c =
+    λ i. record { kind = (file_column c).kind; max_def_level = c.max_def_level; max_rep_level = c.max_rep_level; physical = c.leaf.physical; annotation = last_of (same-annotations bytes (parts c.path) i) }
+
+same-columns : (bytes : List ℕ) (cs : List Column) → map file_column cs ≡ map file_column_of (map (column_read bytes) cs)
+same-columns bytes [] = refl
+same-columns bytes (c ∷ cs) = λ i. same-column bytes c i ∷ same-columns bytes cs i
+
+pub columns_kept : (file : Schema) (f : Tree) → Holds file f → map file_column (columns_in file) ≡ map file_column_of (columns_of f)
+columns_kept file f h = same-columns file.image.now (columns_in file) ∙ ap (map file_column_of) h.columns
+
 -- the shape is refused
-pub shape_refused : (k : ℕ) (f t : Tree) (r : Result PlanParts BuildRefusal) (y x : BuildRefusal) → r ≡ Err y → y ≡ x → shape_in t ≡ Err x → PlannedAs r (plan_of k f t)
+pub shape_refused : (k : ℕ) (f t : Tree) (r : Result Plan BuildRefusal) (y x : BuildRefusal) → r ≡ Err y → y ≡ x → shape_in t ≡ Err x → PlannedAs r (plan_of k f t)
 shape_refused k f t r y x p q h = subst (λ w. PlannedAs w (plan_of k f t)) (sym p) ((rw h) ∙ ap Err (sym q))
 
-pub shape_refused_means : (f t : Tree) (r : Result PlanParts BuildRefusal) (y x : BuildRefusal) → Within t → r ≡ Err y → y ≡ x → shape_in t ≡ Err x → MeantFor r f t
+pub shape_refused_means : (f t : Tree) (r : Result Plan BuildRefusal) (y x : BuildRefusal) → Within t → r ≡ Err y → y ≡ x → shape_in t ≡ Err x → MeantFor r f t
 shape_refused_means f t r y x w p q h =
     let meant = subst (ShapeIsMeant t) h (shape_meant t w) in
-    subst (λ k. MeantFor k f t) (sym p)
-    (record { no_plan = λ s used shaped apart uses. meant.2 s shaped; why = rule_is_broken (subst (λ e. Broken e (root t)) (sym q) meant.0); only = λ o broken. meant.1 o broken ∙ sym q })
+    subst (λ k. MeantFor k f t) (sym p) ((λ s used shaped apart uses. meant.2 s shaped), (λ o broken. meant.1 o broken ∙ sym q))
 
 -- the columns are refused
-pub uses_refused : (k : ℕ) (f t : Tree) (s : Shape) (r : Result PlanParts BuildRefusal) (y x : BuildRefusal) → r ≡ Err y → y ≡ x → shape_in t ≡ Ok s → Err x ≡ link_all (columns_of f) [] (columns_of t) → PlannedAs r (plan_of k f t)
+pub uses_refused : (k : ℕ) (f t : Tree) (s : Shape) (r : Result Plan BuildRefusal) (y x : BuildRefusal) → r ≡ Err y → y ≡ x → shape_in t ≡ Ok s → Err x ≡ link_all (columns_of f) [] (columns_of t) → PlannedAs r (plan_of k f t)
 uses_refused k f t s r y x p q h l = subst (λ w. PlannedAs w (plan_of k f t)) (sym p) (rw h (rw (sym l)) ∙ ap Err (sym q))
 
-pub uses_refused_means : (f t : Tree) (s : Shape) (r : Result PlanParts BuildRefusal) (y x : BuildRefusal) → Within t → r ≡ Err y → y ≡ x → shape_in t ≡ Ok s → Linked (Err x) (columns_of f) (columns_of t) → MeantFor r f t
-uses_refused_means f t s r y x w p q h l =
+pub uses_refused_means : (f t : Tree) (s : Shape) (r : Result Plan BuildRefusal) (y x : BuildRefusal) → Within t → r ≡ Err y → shape_in t ≡ Ok s → Linked (Err x) (columns_of f) (columns_of t) → MeantFor r f t
+uses_refused_means f t s r y x w p h l =
     let meant = subst (ShapeIsMeant t) h (shape_meant t w) in
-    subst (λ k. MeantFor k f t) (sym p)
-    (record {
-      no_plan = λ s used shaped apart uses. l.1 used apart uses;
-      why = leaf_denied s meant.0 (subst (λ e. FirstDenied e (columns_of f) (columns_of t)) (sym q) l.0);
-      only = λ o broken. absurd (meant.2 o broken);
-    })
+    subst (λ q. MeantFor q f t) (sym p) ((λ s used shaped apart uses. l used apart uses), (λ o broken. absurd (meant.2 o broken)))
 
 -- the plan is made
-pub made : (k : ℕ) (f t : Tree) (plan : PlanParts) → plan.built ≡ true → plan.batch ≡ k → ShapeHeld (Ok plan.shape) (shape_in t) → uses_in (Ok plan.uses) ≡ link_all (columns_of f) [] (columns_of t)
-    → listed plan.columns ≡ map file_column (columns_of f) → names_held plan.names ≡ tree_names t → PlannedAs (Ok plan) (plan_of k f t)
+pub made : (k : ℕ) (f t : Tree) (plan : Plan) → plan.built ≡ true → plan.batch ≡ k → ShapeHeld (Ok plan.shape) (shape_in t) → uses_in (Ok plan.uses) ≡ link_all (columns_of f) [] (columns_of t)
+    → listed plan.columns ≡ map file_column_of (columns_of f) → names_held plan.names ≡ tree_names t → PlannedAs (Ok plan) (plan_of k f t)
 made k f t plan built batch shape uses columns names = (
-  record { batch = k; shape = shape.0; used = used_of plan.uses; columns = map file_column (columns_of f); names = tree_names t },
+  record { batch = k; shape = shape.0; used = used_of plan.uses; columns = map file_column_of (columns_of f); names = tree_names t },
   rw shape.1 (rw (sym uses)),
   record { built = built; batch = batch; shape = shape.2; used = refl; columns = columns; names = names },
 )
 
-pub made_means : (f t : Tree) (plan : PlanParts) → Within t → ShapeHeld (Ok plan.shape) (shape_in t) → Linked (Ok plan.uses) (columns_of f) (columns_of t) → DistinctIn (Ok plan.uses) → MeantFor (Ok plan) f t
+pub made_means : (f t : Tree) (plan : Plan) → Within t → ShapeHeld (Ok plan.shape) (shape_in t) → Linked (Ok plan.uses) (columns_of f) (columns_of t) → DistinctIn (Ok plan.uses) → MeantFor (Ok plan) f t
 made_means f t plan w shape linked distinct =
     record {
       shape = shape.0;

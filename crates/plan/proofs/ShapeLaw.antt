@@ -5,7 +5,7 @@ use Rattle.schema.specs.Image.{levels, Within}
 use Rattle.plan.specs.declared.refusal.BuildRefusal.{BuildRefusal}
 use Rattle.plan.specs.Shapes.{Shape}
 use Rattle.plan.specs.Forms.{Formed, form_in, shape_in}
-use Rattle.plan.specs.Meaning.{Shaped, ShapeOf, InOrder, Broken, root}
+use Rattle.plan.specs.Meaning.{Shaped, InOrder, Broken, root, ShapeIsMeant}
 use Rattle.plan.proofs.Outcomes.{Outcome}
 use Rattle.plan.proofs.Meant.{Shows, Falls, meant}
 use Rattle.plan.proofs.Complete.{formed}
@@ -40,11 +40,6 @@ broken_shapeless e n i x s broken f = broken_not_ordered broken (shape_sound (le
 root_level : (t : Tree) → Within t → levels (root t) ≤ 17
 unfolding levels
 root_level t within = omega arith
-
--- A shape is answered: it is the schema's, the only one, and no rule is broken. A refusal: it names the rule broken first, no other is that, and there is no shape.
-abbrev pub ShapeIsMeant : Tree → Formed → Type 0
-ShapeIsMeant t (Ok s) = ShapeOf t s × ((u : Shape) → ShapeOf t u → u ≡ s) × ((e : BuildRefusal) → ¬ Broken e (root t))
-ShapeIsMeant t (Err e) = Broken e (root t) × ((o : BuildRefusal) → Broken o (root t) → o ≡ e) × ((s : Shape) → ¬ ShapeOf t s)
 
 pub shape_meant : (t : Tree) → Within t → ShapeIsMeant t (shape_in t)
 unfolding shape_in

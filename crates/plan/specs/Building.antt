@@ -1,12 +1,12 @@
 -- What building a plan answers. Assumes nothing.
-use Rattle.std.specs.Prelude.{◌≡◌, ℕ, ◌≤◌, Bool, true, false, cond, ◌&&◌, ◌⊎◌, List, [], ◌∷◌, map, Some, None, Ok, Err, Option, Result, nat_le}
+use Rattle.std.specs.Prelude.{◌≡◌, ℕ, ◌≤◌, Bool, true, cond, ◌&&◌, List, [], ◌∷◌, map, Some, None, Ok, Err, Option, Result, nat_le}
 use Rattle.schema.specs.declared.refusal.ImageRefusal.{ImageRefusal}
 use Rattle.schema.specs.Schemas.{Tree}
 use Rattle.schema.specs.Image.{image, Within}
 use Rattle.schema.specs.Reading.{schema_in}
 use Rattle.schema.specs.Columns.{columns_of}
 use Rattle.schema.specs.Answering.{tree_rows}
-use Rattle.plan.specs.declared.parts.PlanParts.{PlanParts}
+use Rattle.plan.specs.declared.build.Plan.{Plan}
 use Rattle.plan.specs.declared.columns.FileColumn.{FileColumn}
 use Rattle.plan.specs.declared.link.UsedColumn.{UsedColumn}
 use Rattle.plan.specs.declared.refusal.BuildRefusal.{BuildRefusal}
@@ -15,8 +15,8 @@ use Rattle.plan.specs.Shapes.{Shape}
 use Rattle.plan.specs.Forms.{Formed, shape_in}
 use Rattle.plan.specs.Meaning.{ShapeOf, Broken, root}
 use Rattle.plan.specs.Flat.{flat, held}
-use Rattle.plan.specs.Links.{link_all, used_of, UseAll, Apart, Distinct, FirstDenied}
-use Rattle.plan.specs.FileColumns.{file_column, listed}
+use Rattle.plan.specs.Links.{link_all, used_of, UseAll, Apart, Distinct}
+use Rattle.plan.specs.FileColumns.{file_column_of, listed}
 use Rattle.plan.specs.Pool.{names_held}
 
 -- A plan as a value: the batch size, the shape of the rows, the columns that its leaves use, what is known of every file column, and
@@ -52,7 +52,7 @@ abbrev pub plan_of : ℕ → Tree → Tree → Result Planned BuildRefusal
 plan_of k f t =
     going (shape_in t) (λ s.
     going (link_all (columns_of f) [] (columns_of t)) (λ us.
-    Ok (record { batch = k; shape = s; used = us; columns = map file_column (columns_of f); names = tree_names t })))
+    Ok (record { batch = k; shape = s; used = us; columns = map file_column_of (columns_of f); names = tree_names t })))
 
 -- a batch has 1 to 16 triplets
 abbrev pub is_batch_size : ℕ → Bool
@@ -63,11 +63,11 @@ unfoldable pub build_in : ℕ → List ℕ → List ℕ → Result Planned Build
 build_in k file read = cond (is_batch_size k) (with_schema (schema_in file) (λ f. with_schema (schema_in (read_or file read)) (λ t. plan_of k f t))) (Err BatchSize)
 
 -- the batch size of a plan that is built
-abbrev pub size_of : PlanParts → Option ℕ
+abbrev pub size_of : Plan → Option ℕ
 size_of plan = cond plan.built (Some plan.batch) None
 
 -- a plan holds a value
-pub record PlanHeld (plan : PlanParts) (p : Planned) : Type 0 where
+pub record PlanHeld (plan : Plan) (p : Planned) : Type 0 where
   pub built : plan.built ≡ true
   pub batch : plan.batch ≡ p.batch
   pub shape : held plan.shape ≡ flat p.shape
@@ -75,23 +75,19 @@ pub record PlanHeld (plan : PlanParts) (p : Planned) : Type 0 where
   pub columns : listed plan.columns ≡ p.columns
   pub names : names_held plan.names ≡ p.names
 
--- what every plan is: unbuilt, or one that some batch size and two images build
-abbrev pub Made : PlanParts → Type 0
-Made plan = ∥ (plan.built ≡ false) ⊎ ((k : ℕ) × (file : List ℕ) × (read : List ℕ) × (p : Planned) × (build_in k file read ≡ Ok p) × PlanHeld plan p) ∥₁
-
 -- the answer of building from two schemas
-abbrev pub PlannedAs : Result PlanParts BuildRefusal → Result Planned BuildRefusal → Type 0
+abbrev pub PlannedAs : Result Plan BuildRefusal → Result Planned BuildRefusal → Type 0
 PlannedAs (Ok plan) o = (p : Planned) × (o ≡ Ok p) × PlanHeld plan p
 PlannedAs (Err e) o = o ≡ Err e
 
 -- the answer of building: the plan holds what is built, or it is as it was
-abbrev pub Built : Result Unit BuildRefusal → ℕ → List ℕ → List ℕ → PlanParts → PlanParts → Type 0
+abbrev pub Built : Result Unit BuildRefusal → ℕ → List ℕ → List ℕ → Plan → Plan → Type 0
 Built (Ok _) k file read old new = (p : Planned) × (build_in k file read ≡ Ok p) × PlanHeld new p
 Built (Err e) k file read old new = (build_in k file read ≡ Err e) × (new ≡ old)
 
 -- A plan is that of two schemas, in the words of the format: its table is the one shape of the read schema, and each read leaf uses
 -- the file column of its path, no column twice.
-pub record PlanFor (f t : Tree) (plan : PlanParts) : Type 0 where
+pub record PlanFor (f t : Tree) (plan : Plan) : Type 0 where
   pub shape : Shape
   pub shaped : ShapeOf t shape
   pub only : (u : Shape) → ShapeOf t u → u ≡ shape
@@ -104,21 +100,14 @@ pub record PlanFor (f t : Tree) (plan : PlanParts) : Type 0 where
 abbrev pub NoPlanFor : Tree → Tree → Type 0
 NoPlanFor f t = (s : Shape) (used : List UsedColumn) → ShapeOf t s → Apart (columns_of t) → UseAll (columns_of f) (columns_of t) used → ⊥
 
--- why no plan is made of two schemas: the read one breaks a rule of shapes, depth first; or it has a shape, and a read leaf uses no file column
-pub data Why (e : BuildRefusal) (f t : Tree) : Type 0 where
-  rule_is_broken : Broken e (root t) → Why e f t
-  leaf_denied : (s : Shape) → ShapeOf t s → FirstDenied e (columns_of f) (columns_of t) → Why e f t
-
--- a refusal of two schemas: no plan can be made, it says why, and no rule of shapes but its own is broken first
-pub record Refuses (e : BuildRefusal) (f t : Tree) : Type 0 where
-  pub no_plan : NoPlanFor f t
-  pub why : Why e f t
-  pub only : (o : BuildRefusal) → Broken o (root t) → o ≡ e
+-- where a rule of shapes is broken, depth first, the refusal is that rule's
+abbrev pub NamesBroken : BuildRefusal → Tree → Type 0
+NamesBroken e t = (o : BuildRefusal) → Broken o (root t) → o ≡ e
 
 -- what making a plan of two schemas means
-abbrev pub MeantFor : Result PlanParts BuildRefusal → Tree → Tree → Type 0
+abbrev pub MeantFor : Result Plan BuildRefusal → Tree → Tree → Type 0
 MeantFor (Ok plan) f t = PlanFor f t plan
-MeantFor (Err e) f t = Refuses e f t
+MeantFor (Err e) f t = NoPlanFor f t × NamesBroken e t
 
 -- the images are those of two schemas within the limits
 pub record Imaged (k : ℕ) (file read : List ℕ) (f t : Tree) : Type 0 where
@@ -130,7 +119,7 @@ pub record Imaged (k : ℕ) (file read : List ℕ) (f t : Tree) : Type 0 where
   pub read_image : image t ≡ read_or file read
 
 -- by meaning: a plan is built exactly where the batch size is right, the images are images and some plan can be made of their schemas;
--- where the images are, a refusal says why no plan can be made
-abbrev pub Means : Result Unit BuildRefusal → ℕ → List ℕ → List ℕ → PlanParts → Type 0
+-- where the images are, a rule of shapes that is broken is the one that is answered
+abbrev pub Means : Result Unit BuildRefusal → ℕ → List ℕ → List ℕ → Plan → Type 0
 Means (Ok _) k file read new = (f : Tree) × (t : Tree) × Imaged k file read f t × PlanFor f t new
-Means (Err e) k file read new = (f t : Tree) → Imaged k file read f t → Refuses e f t
+Means (Err e) k file read new = (f t : Tree) → Imaged k file read f t → NoPlanFor f t × NamesBroken e t

@@ -10,4 +10,3 @@ pub mod Links
 pub mod FileColumns
 pub mod Pool
 pub mod Building
-pub mod LinkSamples

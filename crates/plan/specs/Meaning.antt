@@ -1,5 +1,5 @@
 -- What a read schema means for its rows, in the words of Parquet's logical types. Assumes nothing.
-use Rattle.std.specs.Prelude.{◌≡◌, ℕ, ◌+◌, ◌<◌, ◌⊎◌, List, ◌++◌, Some}
+use Rattle.std.specs.Prelude.{◌≡◌, ℕ, ◌+◌, ◌<◌, ◌⊎◌, List, ◌++◌, Some, Ok, Err}
 use Rattle.basic.specs.declared.types.Repetition.{Repetition}
 use Rattle.basic.specs.declared.types.Repetition.TheVariants.{Required, Optional, Repeated}
 use Rattle.basic.specs.declared.types.ConvertedType.TheVariants as converted
@@ -12,7 +12,7 @@ use Rattle.schema.specs.Answering.{root_heading}
 use Rattle.plan.specs.declared.refusal.BuildRefusal.{BuildRefusal}
 use Rattle.plan.specs.declared.refusal.BuildRefusal.TheVariants as refusal
 use Rattle.plan.specs.Shapes.{Shape, leaf as leaf_shape, optional as optional_shape, group as group_shape, repeated as repeated_shape, ◌&◌, as_list, as_map}
-use Rattle.plan.specs.Forms.{array_name, tuple_ending}
+use Rattle.plan.specs.Forms.{array_name, tuple_ending, Formed}
 
 -- a node is REQUIRED, OPTIONAL or REPEATED
 infix 50 ◌is◌
@@ -183,3 +183,8 @@ mutual
   pub data FirstBroken : BuildRefusal → Nodes → Type 0 where
     in_first : {e : BuildRefusal} {x : Node} {xs : Nodes} → Broken e x → FirstBroken e (more x xs)
     in_later : {e : BuildRefusal} {x : Node} {xs : Nodes} → InOrder x → FirstBroken e xs → FirstBroken e (more x xs)
+
+-- A shape is answered: it is the schema's, the only one, and no rule is broken. A refusal: it names the rule broken first, no other is that, and there is no shape.
+abbrev pub ShapeIsMeant : Tree → Formed → Type 0
+ShapeIsMeant t (Ok s) = ShapeOf t s × ((u : Shape) → ShapeOf t u → u ≡ s) × ((e : BuildRefusal) → ¬ Broken e (root t))
+ShapeIsMeant t (Err e) = Broken e (root t) × ((o : BuildRefusal) → Broken o (root t) → o ≡ e) × ((s : Shape) → ¬ ShapeOf t s)

@@ -1,7 +1,6 @@
 // What is known of every column of a file.
-ghost use Rattle.std.specs.Prelude.{◌≡◌, ℕ, ◌+◌, ◌<◌, ◌≤◌, List, [], ◌∷◌, ◌++◌, map, length};
-ghost use Rattle.schema.specs.Tables.{column_read};
-ghost use Rattle.schema.specs.Answering.{seen_columns};
+ghost use Rattle.std.specs.Prelude.{◌≡◌, ◌+◌, ◌<◌, ◌≤◌, [], ◌∷◌, ◌++◌, map, length};
+ghost use Rattle.schema.specs.Answering.{columns_in};
 ghost use Rattle.plan.specs.FileColumns.{file_column, listed};
 
 use crate::kind::ValueKind;
@@ -38,7 +37,7 @@ const UNUSED: FileColumn = FileColumn {
 impl FileColumn {
     /// What is known of a column of a schema.
     fn of(column: &Column) -> FileColumn
-        ensures { (image : List ℕ) → result ≡ file_column (column_read image column.now) }
+        ensures { result ≡ file_column column.now }
     {
         FileColumn {
             kind: ValueKind::of(column.leaf.physical),
@@ -63,7 +62,7 @@ impl FileColumns {
 
     /// The columns of a file's schema.
     pub(crate) fn of(file: &Schema) -> FileColumns
-        ensures columns { listed result ≡ map file_column (seen_columns file.now) }
+        ensures columns { listed result ≡ map file_column (columns_in file.now) }
     {
         let mut table = FileColumns::empty();
         for column in file.columns() {

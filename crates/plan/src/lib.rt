@@ -4,7 +4,6 @@ mod columns;
 mod form;
 mod kind;
 mod link;
-mod parts;
 mod path;
 mod pool;
 mod refusal;

@@ -11,37 +11,37 @@ pub returns-then-count-ne1 : goal.returns-then-count-ne1
 returns-then-count-ne1 c xs n s =
     sym (list_many (heading_of c.args.read.now c.args.list) xs c.args.others (λ e. c.if-count-eq0.false (n ∙ e)) (λ e. c.if-count-ne1.true (n ∙ e)))
 
-pub returns-in-default : goal.returns-in-default
-returns-in-default c xs n s =
-    by_alone c.args.read.now _ xs (λ ys. list_rule (heading_of c.args.read.now c.args.list) ys c.args.others) _ (sym n ∙ c.if-count-ne1.false) s (λ m at. absurd (c.in-default.ensures.shows m at))
+pub returns-in_default : goal.returns-in_default
+returns-in_default c xs n s =
+    by_alone c.args.read.now _ xs (λ ys. list_rule (heading_of c.args.read.now c.args.list) ys c.args.others) _ (sym n ∙ c.if-count-ne1.false) s (λ m at. absurd (c.in_default.ensures.shows m at))
 
-pub returns-then-not-is-repeated : goal.returns-then-not-is-repeated
-returns-then-not-is-repeated c xs n s =
+pub returns-then-not-is_repeated : goal.returns-then-not-is_repeated
+returns-then-not-is_repeated c xs n s =
     by_alone c.args.read.now _ xs (λ ys. list_rule (heading_of c.args.read.now c.args.list) ys c.args.others) _ (sym n ∙ c.if-count-ne1.false) s
     (λ m at.
     let v = c.in-Some.ensures.shows m at in
-    sym (list_unrepeated (heading_of c.args.read.now c.args.list) m c.args.others (sym (shown_repeated c.args.read.now c.in-Some.middle m v) ∙ sym c.is-repeated.ensures ∙ c.if-not-is-repeated.true)))
+    sym (list_unrepeated (heading_of c.args.read.now c.args.list) m c.args.others (sym (shown_repeated c.args.read.now c.in-Some.middle m v) ∙ sym c.is_repeated.ensures ∙ c.if-not-is_repeated.true)))
 
-pub returns-then-lacks-element : goal.returns-then-lacks-element
-returns-then-lacks-element c xs n s =
+pub returns-then-lacks_element : goal.returns-then-lacks_element
+returns-then-lacks_element c xs n s =
     by_alone c.args.read.now _ xs (λ ys. list_rule (heading_of c.args.read.now c.args.list) ys c.args.others) _ (sym n ∙ c.if-count-ne1.false) s
     (λ m at.
     let v = c.in-Some.ensures.shows m at in
-    sym (list_lacks (heading_of c.args.read.now c.args.list) m c.args.others (sym (shown_repeated c.args.read.now c.in-Some.middle m v) ∙ sym c.is-repeated.ensures ∙ c.if-not-is-repeated.false)
-    (sym (c.lacks-element.ensures m v) ∙ c.if-lacks-element.true)))
+    sym (list_lacks (heading_of c.args.read.now c.args.list) m c.args.others (sym (shown_repeated c.args.read.now c.in-Some.middle m v) ∙ sym c.is_repeated.ensures ∙ c.if-not-is_repeated.false)
+    (sym (c.lacks_element.ensures m v) ∙ c.if-lacks_element.true)))
 
-pub returns-then-collects-or-repeats : goal.returns-then-collects-or-repeats
-returns-then-collects-or-repeats c xs n s =
+pub returns-then-collects_or_repeats : goal.returns-then-collects_or_repeats
+returns-then-collects_or_repeats c xs n s =
     by_alone c.args.read.now _ xs (λ ys. list_rule (heading_of c.args.read.now c.args.list) ys c.args.others) _ (sym n ∙ c.if-count-ne1.false) s
     (λ m at.
     let v = c.in-Some.ensures.shows m at in
-    sym (list_bad (heading_of c.args.read.now c.args.list) m c.args.others (sym (shown_repeated c.args.read.now c.in-Some.middle m v) ∙ sym c.is-repeated.ensures ∙ c.if-not-is-repeated.false)
-    (sym (c.lacks-element.ensures m v) ∙ c.if-lacks-element.false) (sym (c.collects-or-repeats.ensures m at v) ∙ c.if-collects-or-repeats.true)))
+    sym (list_bad (heading_of c.args.read.now c.args.list) m c.args.others (sym (shown_repeated c.args.read.now c.in-Some.middle m v) ∙ sym c.is_repeated.ensures ∙ c.if-not-is_repeated.false)
+    (sym (c.lacks_element.ensures m v) ∙ c.if-lacks_element.false) (sym (c.collects_or_repeats.ensures m at v) ∙ c.if-collects_or_repeats.true)))
 
 pub returns : goal.returns
 returns c xs n s =
     by_alone c.args.read.now _ xs (λ ys. list_rule (heading_of c.args.read.now c.args.list) ys c.args.others) _ (sym n ∙ c.if-count-ne1.false) s
     (λ m at.
     let v = c.in-Some.ensures.shows m at in
-    sym (list_good (heading_of c.args.read.now c.args.list) m c.args.others (sym (shown_repeated c.args.read.now c.in-Some.middle m v) ∙ sym c.is-repeated.ensures ∙ c.if-not-is-repeated.false)
-    (sym (c.lacks-element.ensures m v) ∙ c.if-lacks-element.false) (sym (c.collects-or-repeats.ensures m at v) ∙ c.if-collects-or-repeats.false)))
+    sym (list_good (heading_of c.args.read.now c.args.list) m c.args.others (sym (shown_repeated c.args.read.now c.in-Some.middle m v) ∙ sym c.is_repeated.ensures ∙ c.if-not-is_repeated.false)
+    (sym (c.lacks_element.ensures m v) ∙ c.if-lacks_element.false) (sym (c.collects_or_repeats.ensures m at v) ∙ c.if-collects_or_repeats.false)))

@@ -9,12 +9,12 @@ returns-then-count-eq0 c xs n s = sym (map_none xs c.args.others (sym n ∙ c.if
 pub returns-then-count-ne1 : goal.returns-then-count-ne1
 returns-then-count-ne1 c xs n s = sym (map_many xs c.args.others (λ e. c.if-count-eq0.false (n ∙ e)) (λ e. c.if-count-ne1.true (n ∙ e)))
 
-pub returns-then-is-middle-of-map : goal.returns-then-is-middle-of-map
-returns-then-is-middle-of-map c xs n s =
+pub returns-then-is_middle_of_map : goal.returns-then-is_middle_of_map
+returns-then-is_middle_of_map c xs n s =
     by_alone c.args.read.now _ xs (λ ys. map_rule ys c.args.others) _ (sym n ∙ c.if-count-ne1.false) s
-    (λ m at. sym (map_good m c.args.others (sym (c.is-middle-of-map.ensures m at) ∙ c.if-is-middle-of-map.true)))
+    (λ m at. sym (map_good m c.args.others (sym (c.is_middle_of_map.ensures m at) ∙ c.if-is_middle_of_map.true)))
 
-pub returns-else-is-middle-of-map : goal.returns-else-is-middle-of-map
-returns-else-is-middle-of-map c xs n s =
+pub returns-else-is_middle_of_map : goal.returns-else-is_middle_of_map
+returns-else-is_middle_of_map c xs n s =
     by_alone c.args.read.now _ xs (λ ys. map_rule ys c.args.others) _ (sym n ∙ c.if-count-ne1.false) s
-    (λ m at. sym (map_bad m c.args.others (sym (c.is-middle-of-map.ensures m at) ∙ c.if-is-middle-of-map.false)))
+    (λ m at. sym (map_bad m c.args.others (sym (c.is_middle_of_map.ensures m at) ∙ c.if-is_middle_of_map.false)))

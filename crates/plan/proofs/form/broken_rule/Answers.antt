@@ -5,25 +5,25 @@ use Rattle.plan.specs.Forms.{is_repeated, first_of, list_rule, map_rule, group_r
 use Rattle.plan.specs.Standing.{heading_of}
 use Rattle.plan.proofs.Rules.{shown_body, rule_leaf, Grouped, grouped, fields_none, fields_some}
 use Rattle.plan.proofs.form.broken_rule.Goals as goal
-use Rattle.plan.proofs.form.broken_rule.Goals.{Joined-is-repeated, then-is-repeated, else-is-repeated}
+use Rattle.plan.proofs.form.broken_rule.Goals.{Joined-is_repeated, then-is_repeated, else-is_repeated}
 
-pub returns-in-default : goal.returns-in-default
-returns-in-default c x s v = sym (rule_leaf x _ (sym (shown_body c.args.read.now c.args.entry x v) ∙ c.in-default.is))
+pub returns-in_default : goal.returns-in_default
+returns-in_default c x s v = sym (rule_leaf x _ (sym (shown_body c.args.read.now c.args.entry x v) ∙ c.in_default.is))
 
 -- what is said of a collection that is REPEATED
-repeated : (c : Joined-is-repeated) → c.if-is-repeated.repeated ≡ first_of (is_repeated c.args.entry.header.repetition) RepeatedCollection None
+repeated : (c : Joined-is_repeated) → c.if-is_repeated.repeated ≡ first_of (is_repeated c.args.entry.header.repetition) RepeatedCollection None
 repeated c =
-    elim c.if-is-repeated.branch [
-      | then-is-repeated w ↦ w.repeated-is ∙ sym (cond-true (is_repeated c.args.entry.header.repetition) (Some RepeatedCollection) None (sym c.is-repeated.ensures ∙ w.if-is-repeated.true))
-      | else-is-repeated w ↦ w.repeated-is ∙ sym (cond-false (is_repeated c.args.entry.header.repetition) (Some RepeatedCollection) None (sym c.is-repeated.ensures ∙ w.if-is-repeated.false))
+    elim c.if-is_repeated.branch [
+      | then-is_repeated w ↦ w.repeated-is ∙ sym (cond-true (is_repeated c.args.entry.header.repetition) (Some RepeatedCollection) None (sym c.is_repeated.ensures ∙ w.if-is_repeated.true))
+      | else-is_repeated w ↦ w.repeated-is ∙ sym (cond-false (is_repeated c.args.entry.header.repetition) (Some RepeatedCollection) None (sym c.is_repeated.ensures ∙ w.if-is_repeated.false))
     ]
 
 pub returns-in-ListOf : goal.returns-in-ListOf
 returns-in-ListOf c x s v =
     let g = grouped c.args.read.now c.args.at c.args.entry x _ s v c.in-Group.is in
     let h = heading_of c.args.read.now c.args.entry.header in
-    c.broken-list.ensures g.fields g.counted g.stand
-    ∙ ap (list_rule h g.fields) (repeated (goal.at.returns-in-ListOf c).Joined-is-repeated)
+    c.broken_list.ensures g.fields g.counted g.stand
+    ∙ ap (list_rule h g.fields) (repeated (goal.at.returns-in-ListOf c).Joined-is_repeated)
     ∙ ap (λ k. group_rule k h g.fields) c.in-ListOf.ensures
     ∙ sym g.rule
 
@@ -31,8 +31,8 @@ pub returns-in-MapOf : goal.returns-in-MapOf
 returns-in-MapOf c x s v =
     let g = grouped c.args.read.now c.args.at c.args.entry x _ s v c.in-Group.is in
     let h = heading_of c.args.read.now c.args.entry.header in
-    c.broken-map.ensures g.fields g.counted g.stand
-    ∙ ap (map_rule g.fields) (repeated (goal.at.returns-in-MapOf c).Joined-is-repeated)
+    c.broken_map.ensures g.fields g.counted g.stand
+    ∙ ap (map_rule g.fields) (repeated (goal.at.returns-in-MapOf c).Joined-is_repeated)
     ∙ ap (λ k. group_rule k h g.fields) c.in-MapOf.ensures
     ∙ sym g.rule
 

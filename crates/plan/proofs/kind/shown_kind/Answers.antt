@@ -3,9 +3,9 @@ use Rattle.plan.specs.Kinds.{kind_under, is_float16, shown_kind}
 use Rattle.plan.proofs.Grid.{entry-shown}
 use Rattle.plan.proofs.kind.shown_kind.Goals as goal
 
-pub returns-then-is-float16 : goal.returns-then-is-float16
+pub returns-then-is_float16 : goal.returns-then-is_float16
 unfolding shown_kind
-returns-then-is-float16 c = search rules
+returns-then-is_float16 c = search rules
 
 -- The rule of the table is computed here.
 pub returns : goal.returns

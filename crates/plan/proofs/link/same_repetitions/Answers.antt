@@ -12,14 +12,14 @@ returns-then-path-other c =
     differ _ (decides_repetitions (repetition_of path) (repetition_of other))
     (λ e. c.if-path-other.true (sym (repetitions-length path) ∙ ap length e ∙ repetitions-length other))
 
-pub returns-then-not-same-repetition : goal.returns-then-not-same-repetition
-returns-then-not-same-repetition c =
+pub returns-then-not-same_repetition : goal.returns-then-not-same_repetition
+returns-then-not-same_repetition c =
     let path = c.args.path.now in
     let other = c.args.other.now in
     let i = c.loop-i.i in
     let short : i < length other = omega (arith, c.if-path-other.false, c.loop-i-test.true) in
     differ _ (decides_repetitions (repetition_of path) (repetition_of other))
-    (λ e. not_from_Decides _ (decides_repetition _ _) (sym c.if-not-same-repetition.ensures)
+    (λ e. not_from_Decides _ (decides_repetition _ _) (sym c.if-not-same_repetition.ensures)
     (sym (repetition-at path i _ c.loop-i-test.true) ∙ ap (λ l. get_or l i Required) e ∙ repetition-at other i _ short))
 
 pub loop-i-preserved : goal.loop-i-preserved
@@ -30,7 +30,7 @@ loop-i-preserved c =
     let short : i < length other = omega (arith, c.if-path-other.false, c.loop-i-test.true) in
     same_step (repetition_of path) (repetition_of other) i (repetitions-length path ∙ c.if-path-other.false ∙ sym (repetitions-length other)) c.loop-i.invariant Required
     (omega (arith, repetitions-length path, c.loop-i-test.true))
-    (repetition-at path i _ c.loop-i-test.true ∙ (decides_repetition _ _).0 (sym c.if-not-same-repetition.ensures) ∙ sym (repetition-at other i _ short))
+    (repetition-at path i _ c.loop-i-test.true ∙ (decides_repetition _ _).0 (sym c.if-not-same_repetition.ensures) ∙ sym (repetition-at other i _ short))
 
 pub returns : goal.returns
 returns c =

@@ -6,9 +6,9 @@ pub returns-in-FixedLenByteArray : goal.returns-in-FixedLenByteArray
 returns-in-FixedLenByteArray c =
     let l = c.args.leaf.now in
     let some = with_length l.physical l.length (float16_text l.float16) c.in-FixedLenByteArray.is in
-    rw some (rw c.float16-text-float16.ensures at c.format.ensures.ok)
+    rw some (rw c.float16_text-float16.ensures at c.format.ensures.ok)
 
-pub returns-in-default : goal.returns-in-default
-returns-in-default c =
-    let none = no_length c.args.leaf.now.physical c.args.leaf.now.length c.in-default.not-FixedLenByteArray in
-    rw none (rw c.float16-text-float16.ensures at c.format-in-default.ensures.ok)
+pub returns-in_default : goal.returns-in_default
+returns-in_default c =
+    let none = no_length c.args.leaf.now.physical c.args.leaf.now.length c.in_default.not-FixedLenByteArray in
+    rw none (rw c.float16_text-float16.ensures at c.format-in_default.ensures.ok)

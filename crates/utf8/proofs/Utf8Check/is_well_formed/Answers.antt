@@ -8,10 +8,10 @@ pub returns-in-Sequence : goal.returns-in-Sequence
 returns-in-Sequence c =
     let is : true ≡ is_whole (awaits c.args.self.now.state) = search rules in
     let answer = answers c.args.self.now true is in
-    record { as-tested = λ fed h. (answer fed h).0; exactly = λ fed h. (answer fed h).1 }
+    record { as_tested = λ fed h. (answer fed h).0; exactly = λ fed h. (answer fed h).1 }
 
-pub returns-in-default : goal.returns-in-default
-returns-in-default c =
+pub returns-in_default : goal.returns-in_default
+returns-in_default c =
     let is : false ≡ is_whole (awaits c.args.self.now.state) = search rules in
     let answer = answers c.args.self.now false is in
-    record { as-tested = λ fed h. (answer fed h).0; exactly = λ fed h. (answer fed h).1 }
+    record { as_tested = λ fed h. (answer fed h).0; exactly = λ fed h. (answer fed h).1 }

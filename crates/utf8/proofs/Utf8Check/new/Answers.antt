@@ -4,4 +4,4 @@ use Rattle.utf8.proofs.Utf8Check.new.Goals as goal
 
 pub returns : goal.returns
 unfolding Fed
-returns c = record { fed-nothing = refl }
+returns c = record { fed_nothing = refl }

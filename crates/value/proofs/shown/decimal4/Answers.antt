@@ -6,5 +6,5 @@ use Rattle.value.proofs.shown.decimal4.Goals as goal
 pub returns : goal.returns
 unfolding big_endian
 returns c =
-    let e : c.to-be-bytes.result ≡ big_endian 4 c.args.int = c.to-be-bytes.ensures ∙ rw (div-one c.args.int) in
-    record { shows = e; writes = writes 4 c.args.int c.to-be-bytes.result (omega arith) e }
+    let e : c.to_be_bytes.result ≡ big_endian 4 c.args.int = c.to_be_bytes.ensures ∙ rw (div-one c.args.int) in
+    record { shows = e; writes = writes 4 c.args.int c.to_be_bytes.result (omega arith) e }

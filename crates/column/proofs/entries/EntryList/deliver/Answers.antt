@@ -5,34 +5,34 @@ use Rattle.column.proofs.Goods.{sound_left}
 use Rattle.column.proofs.Delivering.{asked_below, misused, walk_given, failed, handed, chosen}
 use Rattle.column.proofs.entries.EntryList.deliver.Goals as goal
 
-pub returns-then-not-is-askable : goal.returns-then-not-is-askable
-returns-then-not-is-askable g c =
+pub returns-then-not-is_askable : goal.returns-then-not-is_askable
+returns-then-not-is_askable g c =
     let s = c.args.self.now in
     let b = slices c.args.repetitions.now c.args.definitions.now c.args.values.now in
-    record { delivers = misused g.V.ColumnValue.val g.V.ColumnValue.kind (shapes_in s.table) s.entries.now s.cursors s.fault s.pool.now c.args.column c.args.k b c.get-shape.result c.get-shape.ensures.tells c.value_kind_lem.result c.value_kind_lem.ensures (sym c.if-not-is-askable.ensures); one-to-k = tt }
+    record { delivers = misused g.V.ColumnValue.val g.V.ColumnValue.kind (shapes_in s.table) s.entries.now s.cursors s.fault s.pool.now c.args.column c.args.k b c.get-shape.result c.get-shape.ensures.tells c.value_kind_lem.result c.value_kind_lem.ensures (sym c.if-not-is_askable.ensures); one_to_k = tt }
 
 pub offset-bounds-self-column : goal.offset-bounds-self-column
 offset-bounds-self-column g c =
-    let below = asked_below _ _ _ _ _ _ c.args.column (sym c.if-not-is-askable.ensures) c.get-shape.ensures.below_64 in
+    let below = asked_below _ _ _ _ _ _ c.args.column (sym c.if-not-is_askable.ensures) c.get-shape.ensures.below_64 in
     search rules
 
 pub bounds-self-column : goal.bounds-self-column
-bounds-self-column g c = asked_below _ _ _ _ _ _ c.args.column (sym c.if-not-is-askable.ensures) c.get-shape.ensures.below_64
+bounds-self-column g c = asked_below _ _ _ _ _ _ c.args.column (sym c.if-not-is_askable.ensures) c.get-shape.ensures.below_64
 
 pub gather-taken-requires : goal.gather-taken-requires
 gather-taken-requires g c =
     let s = c.args.self.now in
     let b = slices c.args.repetitions.now c.args.definitions.now c.args.values.now in
-    let given = walk_given g.V.ColumnValue.val g.V.ColumnValue.kind (shapes_in s.table) s.entries.now s.cursors s.fault s.pool.now c.args.column c.args.k b c.get-shape.result c.get-shape.ensures.tells c.value_kind_lem.result c.value_kind_lem.ensures (sym c.if-not-is-askable.ensures) s.good in
+    let given = walk_given g.V.ColumnValue.val g.V.ColumnValue.kind (shapes_in s.table) s.entries.now s.cursors s.fault s.pool.now c.args.column c.args.k b c.get-shape.result c.get-shape.ensures.tells c.value_kind_lem.result c.value_kind_lem.ensures (sym c.if-not-is_askable.ensures) s.good in
     record { room = given.0; kind = given.1 }
 
 pub offset-bounds-self-column-2 : goal.offset-bounds-self-column-2
 offset-bounds-self-column-2 g c =
-    let below = asked_below _ _ _ _ _ _ c.args.column (sym c.if-not-is-askable.ensures) c.get-shape.ensures.below_64 in
+    let below = asked_below _ _ _ _ _ _ c.args.column (sym c.if-not-is_askable.ensures) c.get-shape.ensures.below_64 in
     search rules
 
 pub bounds-self-column-2 : goal.bounds-self-column-2
-bounds-self-column-2 g c = asked_below _ _ _ _ _ _ c.args.column (sym c.if-not-is-askable.ensures) c.get-shape.ensures.below_64
+bounds-self-column-2 g c = asked_below _ _ _ _ _ _ c.args.column (sym c.if-not-is_askable.ensures) c.get-shape.ensures.below_64
 
 pub invariant-of-self : goal.invariant-of-self
 invariant-of-self g c = let s = c.args.self.now in (s.good, (s.few, (sound_left (shapes_in s.table) s.entries.now _ s.fault s.pool.now s.good s.few, tt)))
@@ -42,12 +42,12 @@ returns-in-None g c =
     let s = c.args.self.now in
     let b = slices c.args.repetitions.now c.args.definitions.now c.args.values.now in
     let b' = slices c.gather-taken.new.repetitions c.gather-taken.new.definitions c.gather-taken.new.values in
-    let right = sym c.if-not-is-askable.ensures in
+    let right = sym c.if-not-is_askable.ensures in
     let below = asked_below _ _ _ _ _ _ c.args.column right c.get-shape.ensures.below_64 in
     let long : length s.cursors ≡ 64 = search rules in
     record {
       delivers = handed g.V.ColumnValue.val g.V.ColumnValue.kind (shapes_in s.table) s.entries.now s.cursors s.fault s.pool.now c.args.column c.args.k b c.get-shape.result c.get-shape.ensures.tells c.value_kind_lem.result c.value_kind_lem.ensures right (omega arith) b' c.gather-taken.result.at c.gather-taken.result.levels c.gather-taken.result.present c.gather-taken.ensures (inl c.in-None.is);
-      one-to-k = chosen g.V.ColumnValue.val g.V.ColumnValue.kind (shapes_in s.table) s.entries.now s.cursors s.fault s.pool.now c.args.column c.args.k b c.get-shape.result c.get-shape.ensures.tells c.value_kind_lem.result c.value_kind_lem.ensures right (omega arith) b' c.gather-taken.result.at c.gather-taken.result.levels c.gather-taken.result.present c.gather-taken.ensures;
+      one_to_k = chosen g.V.ColumnValue.val g.V.ColumnValue.kind (shapes_in s.table) s.entries.now s.cursors s.fault s.pool.now c.args.column c.args.k b c.get-shape.result c.get-shape.ensures.tells c.value_kind_lem.result c.value_kind_lem.ensures right (omega arith) b' c.gather-taken.result.at c.gather-taken.result.levels c.gather-taken.result.present c.gather-taken.ensures;
     }
 
 pub returns-then-taken-eq0 : goal.returns-then-taken-eq0
@@ -55,20 +55,20 @@ returns-then-taken-eq0 g c =
     let s = c.args.self.now in
     let b = slices c.args.repetitions.now c.args.definitions.now c.args.values.now in
     let b' = slices c.gather-taken.new.repetitions c.gather-taken.new.definitions c.gather-taken.new.values in
-    let right = sym c.if-not-is-askable.ensures in
+    let right = sym c.if-not-is_askable.ensures in
     let below = asked_below _ _ _ _ _ _ c.args.column right c.get-shape.ensures.below_64 in
     let long : length s.cursors ≡ 64 = search rules in
-    record { delivers = failed g.V.ColumnValue.val g.V.ColumnValue.kind (shapes_in s.table) s.entries.now s.cursors s.fault s.pool.now c.args.column c.args.k b c.get-shape.result c.get-shape.ensures.tells c.value_kind_lem.result c.value_kind_lem.ensures right (omega arith) b' c.gather-taken.result.at c.gather-taken.result.levels c.gather-taken.result.present c.gather-taken.ensures c.in-Some.fault c.if-taken-eq0.true c.in-Some.is; one-to-k = tt }
+    record { delivers = failed g.V.ColumnValue.val g.V.ColumnValue.kind (shapes_in s.table) s.entries.now s.cursors s.fault s.pool.now c.args.column c.args.k b c.get-shape.result c.get-shape.ensures.tells c.value_kind_lem.result c.value_kind_lem.ensures right (omega arith) b' c.gather-taken.result.at c.gather-taken.result.levels c.gather-taken.result.present c.gather-taken.ensures c.in-Some.fault c.if-taken-eq0.true c.in-Some.is; one_to_k = tt }
 
 pub returns-else-taken-eq0 : goal.returns-else-taken-eq0
 returns-else-taken-eq0 g c =
     let s = c.args.self.now in
     let b = slices c.args.repetitions.now c.args.definitions.now c.args.values.now in
     let b' = slices c.gather-taken.new.repetitions c.gather-taken.new.definitions c.gather-taken.new.values in
-    let right = sym c.if-not-is-askable.ensures in
+    let right = sym c.if-not-is_askable.ensures in
     let below = asked_below _ _ _ _ _ _ c.args.column right c.get-shape.ensures.below_64 in
     let long : length s.cursors ≡ 64 = search rules in
     record {
       delivers = handed g.V.ColumnValue.val g.V.ColumnValue.kind (shapes_in s.table) s.entries.now s.cursors s.fault s.pool.now c.args.column c.args.k b c.get-shape.result c.get-shape.ensures.tells c.value_kind_lem.result c.value_kind_lem.ensures right (omega arith) b' c.gather-taken.result.at c.gather-taken.result.levels c.gather-taken.result.present c.gather-taken.ensures (inr c.if-taken-eq0.false);
-      one-to-k = chosen g.V.ColumnValue.val g.V.ColumnValue.kind (shapes_in s.table) s.entries.now s.cursors s.fault s.pool.now c.args.column c.args.k b c.get-shape.result c.get-shape.ensures.tells c.value_kind_lem.result c.value_kind_lem.ensures right (omega arith) b' c.gather-taken.result.at c.gather-taken.result.levels c.gather-taken.result.present c.gather-taken.ensures;
+      one_to_k = chosen g.V.ColumnValue.val g.V.ColumnValue.kind (shapes_in s.table) s.entries.now s.cursors s.fault s.pool.now c.args.column c.args.k b c.get-shape.result c.get-shape.ensures.tells c.value_kind_lem.result c.value_kind_lem.ensures right (omega arith) b' c.gather-taken.result.at c.gather-taken.result.levels c.gather-taken.result.present c.gather-taken.ensures;
     }

@@ -8,10 +8,10 @@ use Rattle.column.proofs.Making.{zeros, at_front, made_large, made_good, made_fe
 use Rattle.column.proofs.Samples.{entry-examples}
 use Rattle.column.proofs.entries.EntryList.new.Goals as goal
 
-pub returns-then-entries-gt-MAX-MEMORY : goal.returns-then-entries-gt-MAX-MEMORY
-returns-then-entries-gt-MAX-MEMORY c =
+pub returns-then-entries-gt-MAX_MEMORY : goal.returns-then-entries-gt-MAX_MEMORY
+returns-then-entries-gt-MAX_MEMORY c =
     record {
-      means = made_large _ c.args.entries.now c.args.pool.now (zeros 64) (⊎_elim inl (λ p. inr p.1) c.then-entries-gt-MAX-MEMORY.either) ∙ ap (λ xs. entries_mean xs c.args.entries.now c.args.pool.now) c.of-table.ensures.columns;
+      means = made_large _ c.args.entries.now c.args.pool.now (zeros 64) (⊎_elim inl (λ p. inr p.1) c.then-entries-gt-MAX_MEMORY.either) ∙ ap (λ xs. entries_mean xs c.args.entries.now c.args.pool.now) c.of-table.ensures.columns;
       worked_examples = entry-examples;
     }
 
@@ -22,14 +22,14 @@ pub invariant-of-result-2 : goal.invariant-of-result-2
 invariant-of-result-2 c =
     let xs = shapes_in c.of-table.result in
     let good = made_good xs c.args.entries.now c.args.pool.now c.checked-good.result.0 c.checked-good.result.1 c.checked-good.ensures in
-    let few = made_few xs c.args.entries.now c.args.pool.now c.checked-good.result.0 c.checked-good.result.1 c.checked-good.ensures c.if-entries-gt-MAX-MEMORY.false in
+    let few = made_few xs c.args.entries.now c.args.pool.now c.checked-good.result.0 c.checked-good.result.1 c.checked-good.ensures c.if-entries-gt-MAX_MEMORY.false in
     (good, (few, (sound_left xs _ (zeros 64) c.checked-good.result.1 c.args.pool.now good few, tt)))
 
 pub returns : goal.returns
 returns c =
     record {
       means =
-          made _ c.args.entries.now c.args.pool.now _ _ c.checked-good.ensures (zeros 64) (at_front 64) c.if-entries-gt-MAX-MEMORY.false c.if-pool-gt-MAX-MEMORY.false
+          made _ c.args.entries.now c.args.pool.now _ _ c.checked-good.ensures (zeros 64) (at_front 64) c.if-entries-gt-MAX_MEMORY.false c.if-pool-gt-MAX_MEMORY.false
           ∙ ap (λ xs. entries_mean xs c.args.entries.now c.args.pool.now) c.of-table.ensures.columns;
       worked_examples = entry-examples;
     }

@@ -8,8 +8,8 @@ use Rattle.column.proofs.entries.delivering.gather.Goals as goal
 pub loop-levels-init : goal.loop-levels-init
 loop-levels-init g c = gather_none _ _ _ _ _ _ (slices c.args.repetitions.now c.args.definitions.now c.args.values.now) 0 0 0
 
-pub returns-in-default : goal.returns-in-default
-returns-in-default g c = gather_all _ _ _ _ _ _ _ _ _ _ c.loop-levels.invariant c.in-default.ensures
+pub returns-in_default : goal.returns-in_default
+returns-in_default g c = gather_all _ _ _ _ _ _ _ _ _ _ c.loop-levels.invariant c.in_default.ensures
 
 pub put-present-requires : goal.put-present-requires
 put-present-requires g c =

@@ -9,7 +9,7 @@ pub returns-in-Some : goal.returns-in-Some
 returns-in-Some c = checked_bad _ _ c.args.entries.now c.loop-i.i _ c.loop-i-test.true c.loop-i.invariant c.in-Some.kind (sym c.in-Some.ensures)
 
 pub loop-i-preserved : goal.loop-i-preserved
-loop-i-preserved c = checking_more _ _ c.args.entries.now c.loop-i.i _ c.loop-i-test.true c.loop-i.invariant (sym c.in-default.ensures)
+loop-i-preserved c = checking_more _ _ c.args.entries.now c.loop-i.i _ c.loop-i-test.true c.loop-i.invariant (sym c.in_default.ensures)
 
 pub returns : goal.returns
 returns c = checked_all _ _ c.args.entries.now c.loop-i.i c.loop-i-test.false c.loop-i.invariant

@@ -4,8 +4,8 @@ use Rattle.column.proofs.table.ColumnTable.of.Goals as goal
 
 pub loop-i-preserved : goal.loop-i-preserved
 loop-i-preserved c = (
-  length-set c.loop-i.shapes c.loop-i.i c.shape-of.result ∙ c.loop-i.invariant.0,
-  shapes_more c.columns-columns.result.now c.loop-i.shapes c.loop-i.i c.shape-of.result _ (omega arith) (omega arith) c.shape-of.ensures c.loop-i.invariant.1,
+  length-set c.loop-i.shapes c.loop-i.i c.shape_of.result ∙ c.loop-i.invariant.0,
+  shapes_more c.columns-columns.result.now c.loop-i.shapes c.loop-i.i c.shape_of.result _ (omega arith) (omega arith) c.shape_of.ensures c.loop-i.invariant.1,
 )
 
 pub returns : goal.returns

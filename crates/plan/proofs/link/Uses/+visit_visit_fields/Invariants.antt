@@ -5,8 +5,8 @@ use Rattle.plan.proofs.link.Uses.+visit_visit_fields.Given as goal
 abbrev pub decreases-visit : goal.decreases-visit
 decreases-visit l = 2 * (16 - l.path.now.len)
 
-abbrev pub decreases-visit-fields : goal.decreases-visit-fields
-decreases-visit-fields l = 2 * (16 - l.path.now.len) + 1
+abbrev pub decreases-visit_fields : goal.decreases-visit_fields
+decreases-visit_fields l = 2 * (16 - l.path.now.len) + 1
 
-abbrev pub invariant-visit-fields-loop : goal.invariant-visit-fields-loop
-invariant-visit-fields-loop l = Sofar l.file l.read l.initial.path l.initial.self l.at l.fields l.path l.self l.next l.counter
+abbrev pub invariant-visit_fields-loop : goal.invariant-visit_fields-loop
+invariant-visit_fields-loop l = Sofar l.file l.read l.initial.path l.initial.self l.at l.fields l.path l.self l.next l.counter

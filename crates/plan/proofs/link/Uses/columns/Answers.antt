@@ -7,4 +7,4 @@ pub returns : goal.returns
 returns c =
     let all = c.args.self.now.columns in
     let long : length all ≡ 64 = search rules in
-    record { used = ap (λ n. take n all) (sub-zero c.min.result ∙ c.min.ensures) ∙ take_min all c.args.self.now.len 64 long; whole-table = long }
+    record { used = ap (λ n. take n all) (sub-zero c.min.result ∙ c.min.ensures) ∙ take_min all c.args.self.now.len 64 long; whole_table = long }

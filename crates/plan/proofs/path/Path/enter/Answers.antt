@@ -6,4 +6,4 @@ pub returns : goal.returns
 returns c =
     let headers = c.args.self.now.headers in
     let long : length headers ≡ 16 = search rules in
-    record { starts = refl; one-longer = take_more_set headers c.args.self.now.len c.args.header (omega (arith, c.requires)); keeps = refl; lends = refl }
+    record { starts = refl; one_longer = take_more_set headers c.args.self.now.len c.args.header (omega (arith, c.requires)); keeps = refl; lends = refl }

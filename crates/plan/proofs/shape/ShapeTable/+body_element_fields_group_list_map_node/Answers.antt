@@ -12,10 +12,10 @@ use Rattle.plan.proofs.Appending.{exits, restated, wrap_appended, wrapped-leaves
 use Rattle.plan.proofs.Shaping.{body_leaf, element_leaf, leaf_roomy, fields_refused, fields_last, fields_more, group_none, group_more, form_none, form_broken, form_body, ListOfMiddle, list_kept, list_middle, list_field, map_kept, map_middle_stands, map_keys, map_refused, map_pairs}
 use Rattle.plan.proofs.shape.ShapeTable.+body_element_fields_group_list_map_node.Goals as goal
 
-pub body-returns-in-default : goal.body-returns-in-default
-body-returns-in-default t c =
+pub body-returns-in_default : goal.body-returns-in_default
+body-returns-in_default t c =
     record {
-      formed = λ x s v _. body_leaf (form_in c.args.levels) c.args.self.now c.leaf.new.self c.args.at c.leaf.result x _ (sym (shown_body c.args.read.now c.args.entry x v) ∙ c.in-default.is)
+      formed = λ x s v _. body_leaf (form_in c.args.levels) c.args.self.now c.leaf.new.self c.args.at c.leaf.result x _ (sym (shown_body c.args.read.now c.args.entry x v) ∙ c.in_default.is)
           c.leaf.ensures.room c.leaf.ensures.after c.leaf.ensures.next;
       roomy = leaf_roomy c.args.self.now c.leaf.new.self c.args.at c.leaf.result c.requires.1.0 c.requires.1.1 c.leaf.ensures.after c.leaf.ensures.next;
     }
@@ -76,30 +76,30 @@ element-returns-in-Group t c =
       roomy = c.group.ensures.roomy;
     }
 
-pub fields-returns-in-err-next : goal.fields-returns-in-err-next
-fields-returns-in-err-next t c =
-    let p = err_from_is_err_and c.from-residual.result c.from-residual.ensures.1 in
+pub fields-returns-in_err-next : goal.fields-returns-in_err-next
+fields-returns-in_err-next t c =
+    let p = err_from_is_err_and c.from_residual.result c.from_residual.ensures.1 in
     record {
       formed = λ x xs n s.
-          exits c.args.self.now c.node.new.self c.args.at (size x + sizes xs) (leaves x + leaves_of xs) c.from-residual.result (fields_by (form_in c.args.levels) c.args.at c.args.self.now.leaves x xs) p.0 _ p.1 p.2
-          (fields_refused (form_in c.args.levels) c.args.at c.args.self.now.leaves x xs _ (c.in-err-next.ensures.formed x (first_stands c.args.read.now c.args.at x xs s)));
-      roomy = roomy_err c.node.new.self c.args.at c.from-residual.result p.0 p.1;
+          exits c.args.self.now c.node.new.self c.args.at (size x + sizes xs) (leaves x + leaves_of xs) c.from_residual.result (fields_by (form_in c.args.levels) c.args.at c.args.self.now.leaves x xs) p.0 _ p.1 p.2
+          (fields_refused (form_in c.args.levels) c.args.at c.args.self.now.leaves x xs _ (c.in_err-next.ensures.formed x (first_stands c.args.read.now c.args.at x xs s)));
+      roomy = roomy_err c.node.new.self c.args.at c.from_residual.result p.0 p.1;
     }
 
 pub fields-returns-then-count-le1 : goal.fields-returns-then-count-le1
 fields-returns-then-count-le1 t c =
     record {
       formed = λ x xs n s. fields_last (form_in c.args.levels) c.args.self.now c.node.new.self c.args.at c.args.count _ x xs n c.if-count-le1.true
-          (c.in-ok-next.ensures.formed x (first_stands c.args.read.now c.args.at x xs s));
-      roomy = c.in-ok-next.ensures.roomy;
+          (c.in_ok-next.ensures.formed x (first_stands c.args.read.now c.args.at x xs s));
+      roomy = c.in_ok-next.ensures.roomy;
     }
 
 pub fields-returns : goal.fields-returns
 fields-returns t c =
     record {
       formed = λ x xs n s. fields_more (form_in c.args.levels) c.args.read.now c.args.self.now c.node.new.self c.fields.new.self c.args.at c.args.count _ x xs c.fields.result n c.if-count-le1.false s
-          (c.in-ok-next.ensures.formed x (first_stands c.args.read.now c.args.at x xs s)) c.fields.ensures.formed;
-      roomy = roomy_from c.fields.new.self c.args.at _ c.fields.result (omega (arith, c.in-ok-next.ensures.roomy.0)) c.fields.ensures.roomy;
+          (c.in_ok-next.ensures.formed x (first_stands c.args.read.now c.args.at x xs s)) c.fields.ensures.formed;
+      roomy = roomy_from c.fields.new.self c.args.at _ c.fields.result (omega (arith, c.in_ok-next.ensures.roomy.0)) c.fields.ensures.roomy;
     }
 
 pub group-returns-then-count-eq0 : goal.group-returns-then-count-eq0
@@ -113,17 +113,17 @@ group-returns t c =
       roomy = roomy_from c.fields.new.self c.args.at _ c.fields.result (omega arith) c.fields.ensures.roomy;
     }
 
-pub list-returns-in-default : goal.list-returns-in-default
-list-returns-in-default t c =
+pub list-returns-in_default : goal.list-returns-in_default
+list-returns-in_default t c =
     record {
       formed = λ xs o s kept.
           let k = list_kept (heading_of c.args.read.now c.args.header) xs o kept in
-          absurd (c.in-default.ensures.shows k.middle (first_stands c.args.read.now (c.args.at + 1) k.middle none (subst (StandAll c.args.read.now (c.args.at + 1)) k.alone s)));
+          absurd (c.in_default.ensures.shows k.middle (first_stands c.args.read.now (c.args.at + 1) k.middle none (subst (StandAll c.args.read.now (c.args.at + 1)) k.alone s)));
       roomy = tt;
     }
 
-pub list-returns-then-middle-is-element : goal.list-returns-then-middle-is-element
-list-returns-then-middle-is-element t c =
+pub list-returns-then-middle_is_element : goal.list-returns-then-middle_is_element
+list-returns-then-middle_is_element t c =
     record {
       formed = λ xs o s kept.
           let h = heading_of c.args.read.now c.args.header in
@@ -131,12 +131,12 @@ list-returns-then-middle-is-element t c =
           let st = first_stands c.args.read.now (c.args.at + 1) k.middle none (subst (StandAll c.args.read.now (c.args.at + 1)) k.alone s) in
           let v = c.in-Some.ensures.shows k.middle st in
           list_middle c.args.levels h c.args.self.now c.push.new.self c.element.new.self c.args.at xs k c.element.result
-          (sym (c.middle-is-element.ensures k.middle v) ∙ c.if-middle-is-element.true) c.push.ensures.room c.push.ensures.after (c.element.ensures.formed k.middle st v);
+          (sym (c.middle_is_element.ensures k.middle v) ∙ c.if-middle_is_element.true) c.push.ensures.room c.push.ensures.after (c.element.ensures.formed k.middle st v);
       roomy = roomy_from c.element.new.self c.args.at _ c.element.result (omega arith) c.element.ensures.roomy;
     }
 
-pub list-returns-else-middle-is-element : goal.list-returns-else-middle-is-element
-list-returns-else-middle-is-element t c =
+pub list-returns-else-middle_is_element : goal.list-returns-else-middle_is_element
+list-returns-else-middle_is_element t c =
     record {
       formed = λ xs o s kept.
           let h = heading_of c.args.read.now c.args.header in
@@ -144,36 +144,36 @@ list-returns-else-middle-is-element t c =
           let st = first_stands c.args.read.now (c.args.at + 1) k.middle none (subst (StandAll c.args.read.now (c.args.at + 1)) k.alone s) in
           let v = c.in-Some.ensures.shows k.middle st in
           list_field c.args.levels h c.args.read.now c.args.self.now c.push.new.self c.node.new.self c.args.at xs k c.node.result
-          (sym (c.middle-is-element.ensures k.middle v) ∙ c.if-middle-is-element.false) c.push.ensures.room c.push.ensures.after st c.node.ensures.formed;
+          (sym (c.middle_is_element.ensures k.middle v) ∙ c.if-middle_is_element.false) c.push.ensures.room c.push.ensures.after st c.node.ensures.formed;
       roomy = roomy_from c.node.new.self c.args.at _ c.node.result (omega arith) c.node.ensures.roomy;
     }
 
-pub map-returns-in-default : goal.map-returns-in-default
-map-returns-in-default t c =
+pub map-returns-in_default : goal.map-returns-in_default
+map-returns-in_default t c =
     record {
-      formed = λ xs o s kept. let m = map_middle_stands c.args.read.now (c.args.at + 1) xs (map_kept xs o kept) s in absurd (c.in-default.ensures.shows m.0 m.1);
+      formed = λ xs o s kept. let m = map_middle_stands c.args.read.now (c.args.at + 1) xs (map_kept xs o kept) s in absurd (c.in_default.ensures.shows m.0 m.1);
       roomy = tt;
     }
 
-pub map-returns-then-not-has-two-fields : goal.map-returns-then-not-has-two-fields
-map-returns-then-not-has-two-fields t c =
+pub map-returns-then-not-has_two_fields : goal.map-returns-then-not-has_two_fields
+map-returns-then-not-has_two_fields t c =
     record {
       formed = λ xs o s kept.
           map_keys c.args.levels c.args.read.now c.args.self.now c.push.new.self c.node.new.self c.args.at xs c.node.result (map_kept xs o kept) s
-          (λ m st. ap two_fields (sym (shown_body c.args.read.now c.in-Some.middle m (c.in-Some.ensures.shows m st))) ∙ sym c.has-two-fields.ensures ∙ c.if-not-has-two-fields.true)
+          (λ m st. ap two_fields (sym (shown_body c.args.read.now c.in-Some.middle m (c.in-Some.ensures.shows m st))) ∙ sym c.has_two_fields.ensures ∙ c.if-not-has_two_fields.true)
           c.push.ensures.room c.push.ensures.after c.node.ensures.formed;
       roomy = roomy_from c.node.new.self c.args.at _ c.node.result (omega arith) c.node.ensures.roomy;
     }
 
-pub map-returns-in-err-value : goal.map-returns-in-err-value
-map-returns-in-err-value t c =
-    let p = err_from_is_err_and c.from-residual.result c.from-residual.ensures.1 in
+pub map-returns-in_err-value : goal.map-returns-in_err-value
+map-returns-in_err-value t c =
+    let p = err_from_is_err_and c.from_residual.result c.from_residual.ensures.1 in
     record {
       formed = λ xs o s kept.
-          exits c.args.self.now c.node-2.new.self c.args.at (1 + sizes xs) (leaves_of xs) c.from-residual.result (map_by (form_in c.args.levels) c.args.at c.args.self.now.leaves xs) p.0 _ p.1 p.2
+          exits c.args.self.now c.node-2.new.self c.args.at (1 + sizes xs) (leaves_of xs) c.from_residual.result (map_by (form_in c.args.levels) c.args.at c.args.self.now.leaves xs) p.0 _ p.1 p.2
           (map_refused c.args.levels c.args.read.now c.args.at c.args.self.now.leaves xs _ (map_kept xs o kept) s
-          (λ x st. ap (λ w. form_in c.args.levels (c.args.at + 2) w.leaves x) (sym c.push-2.ensures.after) ∙ c.in-err-value.ensures.formed x st));
-      roomy = roomy_err c.node-2.new.self c.args.at c.from-residual.result p.0 p.1;
+          (λ x st. ap (λ w. form_in c.args.levels (c.args.at + 2) w.leaves x) (sym c.push-2.ensures.after) ∙ c.in_err-value.ensures.formed x st));
+      roomy = roomy_err c.node-2.new.self c.args.at c.from_residual.result p.0 p.1;
     }
 
 pub map-returns : goal.map-returns
@@ -181,23 +181,23 @@ map-returns t c =
     record {
       formed = λ xs o s kept.
           map_pairs c.args.levels c.args.read.now c.args.self.now c.push-2.new.self c.node-2.new.self c.node-3.new.self c.args.at _ xs c.node-3.result (map_kept xs o kept) s
-          (λ m st. ap two_fields (sym (shown_body c.args.read.now c.in-Some.middle m (c.in-Some.ensures.shows m st))) ∙ sym c.has-two-fields.ensures ∙ c.if-not-has-two-fields.false)
-          c.push-2.ensures.room c.push-2.ensures.after c.in-ok-value.ensures.formed c.node-3.ensures.formed;
-      roomy = roomy_from c.node-3.new.self c.args.at _ c.node-3.result (omega (arith, c.in-ok-value.ensures.roomy.0)) c.node-3.ensures.roomy;
+          (λ m st. ap two_fields (sym (shown_body c.args.read.now c.in-Some.middle m (c.in-Some.ensures.shows m st))) ∙ sym c.has_two_fields.ensures ∙ c.if-not-has_two_fields.false)
+          c.push-2.ensures.room c.push-2.ensures.after c.in_ok-value.ensures.formed c.node-3.ensures.formed;
+      roomy = roomy_from c.node-3.new.self c.args.at _ c.node-3.result (omega (arith, c.in_ok-value.ensures.roomy.0)) c.node-3.ensures.roomy;
     }
 
 pub node-returns-then-levels-eq0 : goal.node-returns-then-levels-eq0
 node-returns-then-levels-eq0 t c = record { formed = λ x s. form_none c.args.levels c.args.at c.args.self.now.leaves x c.if-levels-eq0.true; roomy = tt }
 
-pub node-returns-in-default : goal.node-returns-in-default
-node-returns-in-default t c = record { formed = λ x s. absurd (c.in-default.ensures.shows x s); roomy = tt }
+pub node-returns-in_default : goal.node-returns-in_default
+node-returns-in_default t c = record { formed = λ x s. absurd (c.in_default.ensures.shows x s); roomy = tt }
 
-pub node-returns-in-Some-broken-rule : goal.node-returns-in-Some-broken-rule
-node-returns-in-Some-broken-rule t c =
+pub node-returns-in-Some-broken_rule : goal.node-returns-in-Some-broken_rule
+node-returns-in-Some-broken_rule t c =
     record {
       formed = λ x s.
           let v = c.in-Some.ensures.shows x s in
-          form_broken c.args.levels c.args.at c.args.self.now.leaves x _ c.if-levels-eq0.false (sym (c.in-Some-broken-rule.ensures x s v));
+          form_broken c.args.levels c.args.at c.args.self.now.leaves x _ c.if-levels-eq0.false (sym (c.in-Some-broken_rule.ensures x s v));
       roomy = tt;
     }
 
@@ -206,7 +206,7 @@ node-returns t c =
     record {
       formed = λ x s.
           let v = c.in-Some.ensures.shows x s in
-          let kept = sym (c.in-default-broken-rule.ensures x s v) in
+          let kept = sym (c.in_default-broken_rule.ensures x s v) in
           let d = c.args.levels - 1 in
           let i = c.args.self.now.leaves in
           let rep = ap (λ h. h.repetition) (shown-heading c.args.read.now c.in-Some.entry x v) in

@@ -6,11 +6,11 @@ use Rattle.plan.proofs.shape.ShapeTable.of.Goals as goal
 pub node-requires : goal.node-requires
 node-requires c = record { entries = omega (arith, c.empty-table.ensures.len); leaves = omega (arith, c.empty-table.ensures.leaves) }
 
-pub returns-in-err-node : goal.returns-in-err-node
-returns-in-err-node c t h =
-    let p = err_from_is_err_and c.from-residual.result c.from-residual.ensures.1 in
-    root_refused t c.empty-table.result c.from-residual.result p.0 _ p.1 p.2 c.empty-table.ensures.leaves (c.in-err-node.ensures.formed (root_node t) (root_stands c.args.read.now t h))
+pub returns-in_err-node : goal.returns-in_err-node
+returns-in_err-node c t h =
+    let p = err_from_is_err_and c.from_residual.result c.from_residual.ensures.1 in
+    root_refused t c.empty-table.result c.from_residual.result p.0 _ p.1 p.2 c.empty-table.ensures.leaves (c.in_err-node.ensures.formed (root_node t) (root_stands c.args.read.now t h))
 
 pub returns : goal.returns
 returns c t h =
-    root_formed t c.empty-table.result c.node.new.self _ c.empty-table.ensures.len c.empty-table.ensures.leaves (c.in-ok-node.ensures.formed (root_node t) (root_stands c.args.read.now t h))
+    root_formed t c.empty-table.result c.node.new.self _ c.empty-table.ensures.len c.empty-table.ensures.leaves (c.in_ok-node.ensures.formed (root_node t) (root_stands c.args.read.now t h))

@@ -4,8 +4,8 @@ use Rattle.schema.proofs.Paths.{level_fits, level_up, level_same, level_all}
 use Rattle.schema.proofs.column.ColumnPath.max_def_level.Goals as goal
 use Rattle.schema.proofs.column.ColumnPath.max_def_level.Goals.{then-defines, else-defines}
 
-pub overflow-add-level : goal.overflow-add-level
-overflow-add-level c = omega (arith, level_fits defines _ _ _ c.loop-header.invariant c.headers-header-items.ensures.short c.loop-header-test.true)
+pub overflow_add-level : goal.overflow_add-level
+overflow_add-level c = omega (arith, level_fits defines _ _ _ c.loop-header.invariant c.headers-header-items.ensures.short c.loop-header-test.true)
 
 pub loop-header-preserved : goal.loop-header-preserved
 loop-header-preserved c =

@@ -4,38 +4,38 @@ use Rattle.schema.specs.declared.refusal.ImageRefusal.TheVariants.{Malformed}
 use Rattle.schema.proofs.TableRead.{no_name, fields_refused, bytes_over, all_read, exits, answered}
 use Rattle.schema.proofs.tree.Schema.read.Goals as goal
 
-pub returns-in-err-name : goal.returns-in-err-name
-returns-in-err-name c =
-    let p = err_from_is_err_and c.from-residual.result c.from-residual.ensures.1 in
-    answered c.from-residual.result c.args.image.now c.args.self.now c.args.self.now (λ i. (c.type-inv.image i).fits)
-    (exits c.from-residual.result c.args.image.now c.args.self.now p.0 _ p.1 p.2 (no_name _ _ c.in-err-name.ensures))
+pub returns-in_err-name : goal.returns-in_err-name
+returns-in_err-name c =
+    let p = err_from_is_err_and c.from_residual.result c.from_residual.ensures.1 in
+    answered c.from_residual.result c.args.image.now c.args.self.now c.args.self.now (λ i. (c.type_inv.image i).fits)
+    (exits c.from_residual.result c.args.image.now c.args.self.now p.0 _ p.1 p.2 (no_name _ _ c.in_err-name.ensures))
 
-pub returns-in-err-end : goal.returns-in-err-end
-returns-in-err-end c =
-    let p = err_from_is_err_and c.from-residual-in-err-end.result c.from-residual-in-err-end.ensures.1 in
-    let read = c.in-ok-name.ensures in
+pub returns-in_err-end : goal.returns-in_err-end
+returns-in_err-end c =
+    let p = err_from_is_err_and c.from_residual-in_err-end.result c.from_residual-in_err-end.ensures.1 in
+    let read = c.in_ok-name.ensures in
     let table = c.empty-table.ensures in
     let root = c.root.ensures in
-    answered c.from-residual-in-err-end.result c.args.image.now c.args.self.now c.args.self.now (λ i. (c.type-inv.image i).fits)
-    (exits c.from-residual-in-err-end.result c.args.image.now c.args.self.now p.0 _ p.1 p.2
-    (fields_refused c.args.image.now _ c.in-ok-name.name c.empty-table.result c.root.result read.1 table.0 table.1 root.0 root.1 _ c.in-err-end.ensures))
+    answered c.from_residual-in_err-end.result c.args.image.now c.args.self.now c.args.self.now (λ i. (c.type_inv.image i).fits)
+    (exits c.from_residual-in_err-end.result c.args.image.now c.args.self.now p.0 _ p.1 p.2
+    (fields_refused c.args.image.now _ c.in_ok-name.name c.empty-table.result c.root.result read.1 table.0 table.1 root.0 root.1 _ c.in_err-end.ensures))
 
 pub returns-then-end-image : goal.returns-then-end-image
 returns-then-end-image c =
-    let read = c.in-ok-name.ensures in
+    let read = c.in_ok-name.ensures in
     let table = c.empty-table.ensures in
     let root = c.root.ensures in
-    answered (Err Malformed) c.args.image.now c.args.self.now c.args.self.now (λ i. (c.type-inv.image i).fits) (
-      bytes_over c.args.image.now _ c.in-ok-name.name c.empty-table.result c.root.result read.1 table.0 table.1 root.0 root.1 c.group.new.self _
-          c.in-ok-end.ensures c.if-end-image.true,
+    answered (Err Malformed) c.args.image.now c.args.self.now c.args.self.now (λ i. (c.type_inv.image i).fits) (
+      bytes_over c.args.image.now _ c.in_ok-name.name c.empty-table.result c.root.result read.1 table.0 table.1 root.0 root.1 c.group.new.self _
+          c.in_ok-end.ensures c.if-end-image.true,
       refl,
     )
 
 pub returns : goal.returns
 returns c =
-    let read = c.in-ok-name.ensures in
+    let read = c.in_ok-name.ensures in
     let table = c.empty-table.ensures in
     let root = c.root.ensures in
-    answered (Ok tt) c.args.image.now c.args.self.now (record { image = c.args.image; table = c.group.new.self }) (λ i. (c.type-inv.image i).fits)
-    (all_read c.args.image.now _ c.in-ok-name.name c.empty-table.result c.root.result read.1 table.0 table.1 root.0 root.1 c.group.new.self _
-    c.in-ok-end.ensures c.args.self.now _ c.if-end-image.false refl refl)
+    answered (Ok tt) c.args.image.now c.args.self.now (record { image = c.args.image; table = c.group.new.self }) (λ i. (c.type_inv.image i).fits)
+    (all_read c.args.image.now _ c.in_ok-name.name c.empty-table.result c.root.result read.1 table.0 table.1 root.0 root.1 c.group.new.self _
+    c.in_ok-end.ensures c.args.self.now _ c.if-end-image.false refl refl)
