@@ -35,8 +35,8 @@ node-returns-then-at-bytes t c = node_ends _ _ _ c.args.self.now c.if-at-bytes.t
 pub node-returns-then-depth-ge-MAX_LEVELS : goal.node-returns-then-depth-ge-MAX_LEVELS
 node-returns-then-depth-ge-MAX_LEVELS t c =
     elim c.then-depth-ge-MAX_LEVELS.branch [
-      | node-then-depth-ge-MAX-LEVELS-via-then-depth-ge-MAX-LEVELS w ↦ node_deep _ _ c.args.self.now c.if-at-bytes.false _ (omega (arith, w.if-depth-ge-MAX_LEVELS.true, c.depth.ensures))
-      | node-then-depth-ge-MAX-LEVELS-via-else-depth-ge-MAX-LEVELS+then-self-ge-MAX-NODES w ↦ node_full _ _ c.args.self.now c.if-at-bytes.false _ w.if-self-ge-MAX_NODES.true
+      | node-then-depth-ge-MAX_LEVELS-via-then-depth-ge-MAX_LEVELS w ↦ node_deep _ _ c.args.self.now c.if-at-bytes.false _ (omega (arith, w.if-depth-ge-MAX_LEVELS.true, c.depth.ensures))
+      | node-then-depth-ge-MAX_LEVELS-via-else-depth-ge-MAX_LEVELS+then-self-ge-MAX_NODES w ↦ node_full _ _ c.args.self.now c.if-at-bytes.false _ w.if-self-ge-MAX_NODES.true
     ]
 
 pub node-returns-in_err-header : goal.node-returns-in_err-header
