@@ -63,7 +63,7 @@ fn is_named_as_element(read: &Schema, list: Header, middle: Header) -> bool
     ensures { result ≡ named_as_element (heading_of read.now list) (heading_of read.now middle) }
 {
     let name = read.text(middle.name);
-    if name == b"array" {
+    if name == b"array".as_slice() {
         return true;
     }
     match name.strip_suffix(b"_tuple") {

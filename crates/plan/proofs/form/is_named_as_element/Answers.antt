@@ -9,12 +9,12 @@ use Rattle.plan.proofs.form.is_named_as_element.Goals as goal
 
 pub returns-then-eq : goal.returns-then-eq
 returns-then-eq c =
-    named_array _ _ (sym c.text-name.ensures ∙ (slice_eq-Decides Decides-eqb c.text-name.result.now array_name c.eq.result c.eq.ensures).0 c.if-eq.true)
+    named_array _ _ (sym c.text-name.ensures ∙ (slice_eq-Decides Decides-eqb c.text-name.result.now c.as_slice.result.now c.eq.result c.eq.ensures).0 c.if-eq.true ∙ c.as_slice.ensures)
 
 pub returns-in-Some : goal.returns-in-Some
 returns-in-Some c =
     named_tuple (named c.args.read.now.image.now c.args.list.name) (named c.args.read.now.image.now c.args.middle.name)
-    (λ e. both_ways c.eq.result c.if-eq.false ((slice_eq-Decides Decides-eqb c.text-name.result.now array_name c.eq.result c.eq.ensures).1 (c.text-name.ensures ∙ e)))
+    (λ e. both_ways c.eq.result c.if-eq.false ((slice_eq-Decides Decides-eqb c.text-name.result.now c.as_slice.result.now c.eq.result c.eq.ensures).1 (c.text-name.ensures ∙ e ∙ sym c.as_slice.ensures)))
     c.in-Some.front.now c.eq-in-Some.result
     (sym c.text-name.ensures ∙ strip_suffix_is Decides-eqb c.text-name.result.now tuple_ending (Some c.in-Some.front) c.in-Some.ensures.cases)
     (Decides-like c.eq-in-Some.result (λ e. e ∙ c.text.ensures) (λ e. e ∙ sym c.text.ensures) (slice_eq-Decides Decides-eqb c.in-Some.front.now c.text.result.now c.eq-in-Some.result c.eq-in-Some.ensures))
@@ -22,5 +22,5 @@ returns-in-Some c =
 pub returns-in-None : goal.returns-in-None
 returns-in-None c =
     named_otherwise (named c.args.read.now.image.now c.args.list.name) (named c.args.read.now.image.now c.args.middle.name)
-    (λ e. both_ways c.eq.result c.if-eq.false ((slice_eq-Decides Decides-eqb c.text-name.result.now array_name c.eq.result c.eq.ensures).1 (c.text-name.ensures ∙ e)))
-    (λ front e. strip_suffix_is c.text-name.result.now tuple_ending None c.in-None.ensures.cases front (c.text-name.ensures ∙ e))
+    (λ e. both_ways c.eq.result c.if-eq.false ((slice_eq-Decides Decides-eqb c.text-name.result.now c.as_slice.result.now c.eq.result c.eq.ensures).1 (c.text-name.ensures ∙ e ∙ sym c.as_slice.ensures)))
+    (λ front e. strip_suffix_is Decides-eqb c.text-name.result.now tuple_ending None c.in-None.ensures.cases front (c.text-name.ensures ∙ e))

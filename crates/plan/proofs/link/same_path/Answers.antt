@@ -22,8 +22,8 @@ returns-then-not-same_name c =
     let i = c.loop-i.i in
     let short : i < length other = omega (arith, c.if-path-other.false, c.loop-i-test.true) in
     differ _ (decides_path (names (headings_of a path)) (names (headings_of b other)))
-    (λ e. not_from_Decides _ (decides_name c.text.result.now c.text_in-loop-i.result.now) (sym c.if-not-same_name.ensures)
-    (c.text.ensures ∙ sym (name-at a path i _ c.loop-i-test.true) ∙ ap (λ l. get_or l i []) e ∙ name-at b other i _ short ∙ sym c.text_in-loop-i.ensures))
+    (λ e. not_from_Decides _ (decides_name c.text.result.now c.text-in-loop-i.result.now) (sym c.if-not-same_name.ensures)
+    (c.text.ensures ∙ sym (name-at a path i _ c.loop-i-test.true) ∙ ap (λ l. get_or l i []) e ∙ name-at b other i _ short ∙ sym c.text-in-loop-i.ensures))
 
 pub loop-i-preserved : goal.loop-i-preserved
 loop-i-preserved c =
@@ -36,7 +36,7 @@ loop-i-preserved c =
     same_step (names (headings_of a path)) (names (headings_of b other)) i (names-length a path ∙ c.if-path-other.false ∙ sym (names-length b other)) c.loop-i.invariant []
     (omega (arith, names-length a path, c.loop-i-test.true))
     (name-at a path i _ c.loop-i-test.true ∙ sym c.text.ensures
-    ∙ (decides_name c.text.result.now c.text_in-loop-i.result.now).0 (sym c.if-not-same_name.ensures) ∙ c.text_in-loop-i.ensures ∙ sym (name-at b other i _ short))
+    ∙ (decides_name c.text.result.now c.text-in-loop-i.result.now).0 (sym c.if-not-same_name.ensures) ∙ c.text-in-loop-i.ensures ∙ sym (name-at b other i _ short))
 
 pub returns : goal.returns
 returns c =

@@ -18,15 +18,15 @@ visit-returns-then-at-nodes t c =
       links = not_past c.args.read.now c.nodes-nodes.result.now c.args.at c.nodes-nodes.ensures.entries {file = c.args.file.now} {path = c.args.path.now} {old = c.args.self.now} _ _ c.if-at-nodes.true;
     }
 
-pub visit-returns-in_err-link_leaf : goal.visit-returns-in_err-link_leaf
-visit-returns-in_err-link_leaf t c =
+pub visit-returns-in_err-link_leaf-in-Primitive : goal.visit-returns-in_err-link_leaf-in-Primitive
+visit-returns-in_err-link_leaf-in-Primitive t c =
     let p = err_from_is_err_and c.from_residual.result c.from_residual.ensures.1 in
     let start = c.enter-entered.ensures in
     let end = c.drop-entered.ensures in
     record {
       keeps_path = restored _ _ _ _ c.drop-entered.new.self.0 _ start.starts (kept_none _) (end.restores_length ∙ start.keeps) end.leaves_headers (search rules);
       links = leaf_refused c.args.read.now c.nodes-nodes.result.now c.args.at c.nodes-nodes.ensures.entries _ c.if-at-nodes.false c.args.file.now c.args.path.now c.enter-entered.result.path.now
-          c.args.self.now c.link_leaf.new.self _ c.in-Primitive.is start.one_longer c.in_err-link_leaf.field-0.0 c.from_residual.result c.in_err-link_leaf.ensures (p.1 ∙ ap Err p.2);
+          c.args.self.now c.link_leaf.new.self _ c.in-Primitive.is start.one_longer c.in_err-link_leaf-in-Primitive.field-0.0 c.from_residual.result c.in_err-link_leaf-in-Primitive.ensures (p.1 ∙ ap Err p.2);
     }
 
 pub visit-returns-in-Primitive : goal.visit-returns-in-Primitive
@@ -36,7 +36,7 @@ visit-returns-in-Primitive t c =
     record {
       keeps_path = restored _ _ _ _ c.drop-entered-in-Primitive.new.self.0 _ start.starts (kept_none _) (end.restores_length ∙ start.keeps) end.leaves_headers (search rules);
       links = leaf_linked c.args.read.now c.nodes-nodes.result.now c.args.at c.nodes-nodes.ensures.entries _ c.if-at-nodes.false c.args.file.now c.args.path.now c.enter-entered.result.path.now
-          c.args.self.now c.link_leaf.new.self _ c.in-Primitive.is start.one_longer c.in_ok-link_leaf.ensures;
+          c.args.self.now c.link_leaf.new.self _ c.in-Primitive.is start.one_longer c.in_ok-link_leaf-in-Primitive.ensures;
     }
 
 pub visit-returns : goal.visit-returns

@@ -6,8 +6,8 @@ use Rattle.plan.proofs.link.Uses.push.Goals as goal
 pub returns-then-columns-ge-MAX_LEAVES : goal.returns-then-columns-ge-MAX_LEAVES
 returns-then-columns-ge-MAX_LEAVES c = omega (arith, ap length c.columns.ensures.used, c.if-columns-ge-MAX_LEAVES.true)
 
-pub offset-bounds-self-self : goal.offset-bounds-self-self
-offset-bounds-self-self c =
+pub offset_bounds-self-self : goal.offset_bounds-self-self
+offset_bounds-self-self c =
     let lt : c.args.self.now.len < 64 = has_room c.args.self.now _ c.columns.ensures.used c.columns.ensures.whole_table c.if-columns-ge-MAX_LEAVES.false in
     omega arith
 
