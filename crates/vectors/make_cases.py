@@ -25,8 +25,6 @@ agree with both, and alone gives the answers to random images.
 import pathlib
 import random
 
-from source_cases import Sources
-
 LIMIT = 2**64
 
 
@@ -800,10 +798,8 @@ def plan_cases():
         yield builds((9, other, b""), (size, file, read_as), (size, file, read_as), (4, good, b""))
 
 
-SOURCES = Sources(globals())
 GROUPS = {"utf8": utf8_cases, "number": number_cases, "image": image_cases, "nodes": nodes_cases,
-          "head": head_cases, "plan": plan_cases, "batches": SOURCES.batches_cases,
-          "entries": SOURCES.entries_cases}
+          "head": head_cases, "plan": plan_cases}
 
 
 def main():

@@ -1,4 +1,6 @@
 //! The closed lists that a schema image writes as numbers: repetitions, physical types, converted types.
+#![tactic(auto)]
+
 ghost use Rattle.std.specs.Prelude.{◌≡◌, ℕ, List, Some};
 ghost use Rattle.basic.specs.Codes.{decoded, Stands, repetition_code, repetitions, physical_code, physical_types, converted_code, converted_types, annotation_code, annotations, flag_code, flags};
 ghost use Rattle.std.proofs.Common.{rules};

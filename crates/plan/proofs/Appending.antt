@@ -1,16 +1,16 @@
 -- How the table of a shape grows. Assumes nothing.
-use Rattle.std.proofs.Common.{◌≡◌, ℕ, zero, suc, ◌+◌, ◌*◌, ◌<◌, ◌≤◌, Bool, true, false, cond, List, [], ◌∷◌, ◌++◌, length, take, set, Some, None, Ok, Err, Option, Result, sym, refl, ap, ◌∙◌, subst, append_assoc, arith}
+use Rattle.std.proofs.Common.{◌≡◌, ℕ, ◌+◌, ◌<◌, ◌≤◌, [], ◌∷◌, ◌++◌, length, Ok, Err, Result, sym, refl, ap, ◌∙◌, subst, append_assoc, arith}
 use mathlib.Core.Path.{transport}
 use Rattle.std.proofs.lemmas.List.{take_more_set}
 use Rattle.basic.specs.declared.types.Repetition.{Repetition}
 use Rattle.basic.specs.declared.types.Repetition.TheVariants.{Required, Optional, Repeated}
 use Rattle.plan.specs.declared.refusal.BuildRefusal.{BuildRefusal}
 use Rattle.plan.specs.declared.shape.Form.{Form}
-use Rattle.plan.specs.declared.shape.Form.TheVariants.{Leaf, Optional as OptionalForm, Group, List as ListForm, Map as MapForm}
+use Rattle.plan.specs.declared.shape.Form.TheVariants.{Leaf, Optional as OptionalForm, List as ListForm}
 use Rattle.plan.specs.declared.shape.ShapeTable.{ShapeTable}
-use Rattle.plan.specs.Shapes.{Shape, leaf, optional, group, repeated, ◌&◌, as_list, as_map, width, first_leaf}
+use Rattle.plan.specs.Shapes.{Shape, leaf, optional, repeated, as_list, width, first_leaf}
 use Rattle.plan.specs.Forms.{Formed, forming, wrapped}
-use Rattle.plan.specs.Flat.{entry, flat, held, pushed, wrapped_table, WrapRoom, leaf_table, Appended, Roomy, RoomyAfter}
+use Rattle.plan.specs.Flat.{entry, flat, held, pushed, wrapped_table, WrapRoom, leaf_table, Appended, RoomyAfter}
 use Rattle.plan.proofs.Forming.{Fine, fine_so, Begins}
 
 held_push : (t : ShapeTable) (f : Form) (n : ℕ) → t.len < length t.entries → held (pushed t f n) ≡ held t ++ entry f n t.leaves ∷ []

@@ -12,7 +12,7 @@ use Rattle.plan.specs.declared.build.Plan.{Plan}
 use Rattle.plan.specs.declared.refusal.BuildRefusal.{BuildRefusal}
 use Rattle.plan.specs.declared.refusal.BuildRefusal.TheVariants.{BatchSize, Image}
 use Rattle.plan.specs.Samples.{ShapeExamples}
-use Rattle.plan.specs.Building.{read_or, is_batch_size, plan_of, build_in, PlannedAs, MeantFor, Built, Imaged, NoPlanFor, NamesBroken, Means}
+use Rattle.plan.specs.Building.{read_or, is_batch_size, plan_of, build_in, PlannedAs, MeantFor, Built, NoPlanFor, NamesBroken, Means}
 use Rattle.plan.proofs.Samples.{shape_examples}
 
 -- the three clauses of building

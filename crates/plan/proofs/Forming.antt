@@ -1,5 +1,5 @@
 -- What the shapes of nodes have in common. Assumes nothing.
-use Rattle.std.proofs.Common.{◌≡◌, ℕ, zero, suc, ◌+◌, Bool, true, false, cond, Some, None, Ok, Err, Option, sym, refl, ap, ◌∙◌, subst, arith}
+use Rattle.std.proofs.Common.{◌≡◌, ℕ, zero, suc, ◌+◌, cond, Some, None, Ok, Err, Option, refl, ap}
 use Rattle.std.proofs.lemmas.Bool.{cond_both}
 use Rattle.basic.specs.declared.types.Repetition.{Repetition}
 use Rattle.basic.specs.declared.types.Repetition.TheVariants.{Required, Optional, Repeated}
@@ -9,7 +9,7 @@ use Rattle.schema.specs.Columns.{heading}
 use Rattle.plan.specs.declared.refusal.BuildRefusal.{BuildRefusal}
 use Rattle.plan.specs.declared.form.Collection.{Collection}
 use Rattle.plan.specs.declared.form.Collection.TheVariants.{ListOf, MapOf, Plain}
-use Rattle.plan.specs.Shapes.{Shape, optional, repeated, ◌&◌, width, first_leaf}
+use Rattle.plan.specs.Shapes.{Shape, width, first_leaf}
 use Rattle.plan.specs.Forms.{Formed, forming, fields_by, group_by, element_by, only_field, list_by, entry_by, map_by, collection, collection_by, body_by, wrapped, unless_broken, rule_broken, middle_is_element, form_in}
 
 -- what holds of a shape, where there is one

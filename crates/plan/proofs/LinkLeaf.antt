@@ -1,5 +1,5 @@
 -- What the rules say of one leaf, over the tables. Assumes nothing.
-use Rattle.std.proofs.Common.{◌≡◌, ℕ, ◌<◌, ◌≤◌, Bool, true, false, cond, List, [], ◌∷◌, ◌++◌, map, length, get_or, Some, None, Ok, Err, Option, Result, sym, refl, ap, ◌∙◌, subst, arith}
+use Rattle.std.proofs.Common.{◌≡◌, ℕ, ◌<◌, true, false, cond, List, [], ◌∷◌, ◌++◌, map, length, get_or, Some, None, Ok, Err, Option, Result, sym, refl, ap, ◌∙◌, subst, arith}
 use lib.ListN.{length-map}
 use Rattle.std.specs.Option.{ok_or}
 use Rattle.basic.specs.declared.types.ConvertedType.{ConvertedType}
@@ -13,7 +13,7 @@ use Rattle.plan.specs.declared.kind.FieldKind.{FieldKind}
 use Rattle.plan.specs.declared.link.UsedColumn.{UsedColumn}
 use Rattle.plan.specs.declared.link.Uses.{Uses}
 use Rattle.plan.specs.declared.refusal.BuildRefusal.{BuildRefusal}
-use Rattle.plan.specs.declared.refusal.BuildRefusal.TheVariants.{PathAgain, PathMissing, RepetitionDiffers, NoConversion}
+use Rattle.plan.specs.declared.refusal.BuildRefusal.TheVariants.{PathAgain, PathMissing, RepetitionDiffers}
 use Rattle.plan.specs.Kinds.{shown_kind}
 use Rattle.plan.specs.Links.{names, repetitions, annotations, headings_of, same_parts, same_repetition, highest, Highest, last_of, shown_as, link_with, link_one, linking, link_all, is_used, used_of, came_to, Pushed}
 use Rattle.plan.proofs.LinkFind.{column_at_lem}

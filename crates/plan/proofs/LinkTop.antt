@@ -1,20 +1,19 @@
 -- The linking of a whole schema. Assumes nothing.
-use Rattle.std.proofs.Common.{◌≡◌, ℕ, ◌+◌, ◌<◌, ◌≤◌, List, [], ◌∷◌, ◌++◌, map, length, get_or, drop, Ok, Err, Result, sym, refl, ap, ◌∙◌, subst, append-nil, arith, length-append}
+use Rattle.std.proofs.Common.{◌≡◌, ℕ, List, [], ◌∷◌, ◌++◌, length, get_or, drop, Ok, Err, Result, sym, refl, ap, ◌∙◌, append-nil, arith, length-append}
 use lib.ListN.{length-map}
 use Rattle.std.proofs.lemmas.List.{get_or-map}
-use Rattle.schema.specs.declared.entry.Body.{Body}
-use Rattle.schema.specs.declared.entry.Body.TheVariants.{Group, Primitive}
+use Rattle.schema.specs.declared.entry.Body.TheVariants.{Group}
 use Rattle.schema.specs.declared.entry.NodeEntry.{NodeEntry}
 use Rattle.schema.specs.declared.tree.Schema.{Schema}
 use Rattle.schema.specs.Schemas.{Heading, Node, leaf, group, Nodes, none, more, Tree, count}
-use Rattle.schema.specs.Image.{leaves, leaves_of, levels_of, Within}
+use Rattle.schema.specs.Image.{leaves, leaves_of, Within}
 use Rattle.schema.specs.Columns.{columns_at, columns_all, columns_of, heading}
-use Rattle.schema.specs.Tables.{Row, rows, rows_of, row}
-use Rattle.schema.specs.Answering.{Holds, seen_rows, seen_columns, entries_of, tree_rows, root_heading}
+use Rattle.schema.specs.Tables.{rows_of, row}
+use Rattle.schema.specs.Answering.{Holds, seen_rows, seen_columns, entries_of}
 use Rattle.plan.specs.declared.path.Path.{Path}
 use Rattle.plan.specs.declared.link.Uses.{Uses}
 use Rattle.plan.specs.declared.refusal.BuildRefusal.{BuildRefusal}
-use Rattle.plan.specs.Links.{parts_of, headings_of, used_of, came_to, link_all, Before, After, LinksFields, uses_in}
+use Rattle.plan.specs.Links.{parts_of, headings_of, used_of, came_to, link_all, LinksFields, uses_in}
 
 -- each leaf is one column
 mutual

@@ -1,25 +1,24 @@
 -- The visit of the read nodes: the path is kept, and the columns are linked in order. Assumes nothing.
-use Rattle.std.proofs.Common.{◌≡◌, ℕ, zero, suc, ◌+◌, ◌-◌, ◌<◌, ◌≤◌, max, List, [], ◌∷◌, ◌++◌, map, length, get_or, take, drop, set, Ok, Err, Result, sym, refl, ap, ◌∙◌, subst, append_assoc, append-nil, arith, length-append, length-drop, take-take}
+use Rattle.std.proofs.Common.{◌≡◌, ℕ, ◌+◌, ◌-◌, ◌<◌, ◌≤◌, max, List, [], ◌∷◌, ◌++◌, length, get_or, take, drop, set, Ok, Err, Result, sym, refl, ap, ◌∙◌, subst, append_assoc, append-nil, arith, length-append, length-drop, take-take}
 use native.Mathlib.Nat.{sub-zero}
 use lib.ListN.{length-map}
 use lib.Seq.{take-set-le}
 use Rattle.std.proofs.lemmas.List.{map_push, get_or-map, drop_more}
 use Rattle.schema.specs.declared.entry.Header.{Header}
 use Rattle.schema.specs.declared.entry.Leaf.{Leaf}
-use Rattle.schema.specs.declared.entry.Body.{Body}
 use Rattle.schema.specs.declared.entry.Body.TheVariants.{Group, Primitive}
 use Rattle.schema.specs.declared.entry.NodeEntry.{NodeEntry}
 use Rattle.schema.specs.declared.tree.Schema.{Schema}
 use Rattle.schema.specs.Schemas.{Heading, Node, leaf, group, Nodes, none, more, count}
 use Rattle.schema.specs.Image.{levels, levels_of}
-use Rattle.schema.specs.Columns.{ColumnOf, column_at, columns_at, columns_all, heading}
+use Rattle.schema.specs.Columns.{ColumnOf, column_at, columns_at, columns_all}
 use Rattle.schema.specs.Places.{headed}
 use Rattle.schema.specs.Tables.{Row, rows, rows_of, row, node_columns}
 use Rattle.schema.specs.Answering.{seen_rows, seen_columns, entries_of}
 use Rattle.plan.specs.declared.path.Path.{Path}
 use Rattle.plan.specs.declared.link.Uses.{Uses}
 use Rattle.plan.specs.declared.refusal.BuildRefusal.{BuildRefusal}
-use Rattle.plan.specs.Links.{parts_of, headings_of, entered, Kept, used_of, came_to, link_all, Follow, Before, After, LinksLeaf, LinksNode, LinksFields}
+use Rattle.plan.specs.Links.{parts_of, headings_of, entered, Kept, came_to, link_all, Follow, Before, After, LinksLeaf, LinksNode, LinksFields}
 use Rattle.plan.proofs.LinkRules.{refused_still}
 
 pub kept_none : (p : Path) → Kept p p

@@ -1,9 +1,9 @@
 -- Names that elements have. Assumes nothing.
-use Rattle.std.proofs.Common.{◌≡◌, ℕ, Bool, true, false, ◌||◌, List, [], ◌∷◌, ◌++◌, Decides, sym, refl, ap, ◌∙◌, ⊎_elim}
+use Rattle.std.proofs.Common.{◌≡◌, ℕ, Bool, true, false, ◌||◌, List, ◌++◌, Decides, sym, ap, ◌∙◌, ⊎_elim}
 use mathlib.Core.List.{append_cancel_right}
 use Rattle.std.specs.Str.{bytes_eq}
 use Rattle.std.proofs.lemmas.Slice.Eq.{bytes_eq-Decides}
-use Rattle.std.proofs.lemmas.Bool.{or_left, both_ways, cases_Bool}
+use Rattle.std.proofs.lemmas.Bool.{or_left, cases_Bool}
 use Rattle.std.proofs.lemmas.Bool.Decides.{same_from_decides, Decides-like}
 use Rattle.plan.specs.Forms.{array_name, tuple_ending}
 

@@ -1,10 +1,10 @@
 -- Where the nodes of a read schema stand. Assumes nothing.
-use Rattle.std.proofs.Common.{◌≡◌, ℕ, suc, ◌+◌, ◌<◌, ◌≤◌, List, [], ◌∷◌, ◌++◌, map, length, get_or, drop, sym, refl, ap, ◌∙◌, subst, ⊎_elim, append_assoc, add-one, arith, length-append, drop_of_length-le, drop-cons, drop-drop}
+use Rattle.std.proofs.Common.{◌≡◌, ℕ, suc, ◌+◌, ◌<◌, List, [], ◌∷◌, ◌++◌, map, length, get_or, drop, sym, refl, ap, ◌∙◌, subst, ⊎_elim, append_assoc, arith, length-append, drop_of_length-le, drop-cons, drop-drop}
 use Rattle.std.proofs.lemmas.List.{drop-map, length-map}
 use Rattle.std.proofs.lemmas.Bool.{cases_lt}
 use Rattle.schema.specs.declared.entry.NodeEntry.{NodeEntry}
 use Rattle.schema.specs.declared.tree.Schema.{Schema}
-use Rattle.schema.specs.Schemas.{Heading, Node, leaf, group, Nodes, none, more, count}
+use Rattle.schema.specs.Schemas.{Heading, Node, leaf, group, Nodes, none, more}
 use Rattle.schema.specs.Image.{size, sizes}
 use Rattle.schema.specs.Tables.{Row, rows, rows_of, row}
 use Rattle.schema.specs.Answering.{seen_rows, entries_of}

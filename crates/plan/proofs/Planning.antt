@@ -1,28 +1,25 @@
 -- How a plan is made of two schemas. Assumes nothing.
-use Rattle.std.proofs.Common.{◌≡◌, ℕ, ◌≤◌, true, List, [], ◌∷◌, ◌++◌, map, length, take, Ok, Err, Result, sym, refl, ap, ◌∙◌, subst, take_all}
+use Rattle.std.proofs.Common.{◌≡◌, ℕ, true, List, [], ◌∷◌, ◌++◌, map, Ok, Err, Result, sym, refl, ap, ◌∙◌, subst, take_all}
 use Rattle.std.proofs.lemmas.List.{map-append}
 use Rattle.schema.specs.declared.entry.Header.{Header}
 use Rattle.schema.specs.declared.column.Column.{Column}
 use Rattle.schema.specs.declared.tree.Schema.{Schema}
-use Rattle.schema.specs.Schemas.{Heading, Node, leaf, group, Nodes, none, more, Tree}
+use Rattle.schema.specs.Schemas.{Node, leaf, group, Nodes, none, more, Tree}
 use Rattle.schema.specs.Image.{FitsName, Fits, FitsAll, Within}
 use Rattle.schema.specs.Columns.{columns_of, parts}
 use Rattle.schema.specs.Places.{headed}
 use Rattle.schema.specs.Tables.{Row, rows, rows_of, column_read}
-use Rattle.schema.specs.Answering.{Holds, tree_rows, seen_rows, columns_in}
+use Rattle.schema.specs.Answering.{Holds, seen_rows, columns_in}
 use Rattle.plan.specs.declared.build.Plan.{Plan}
-use Rattle.plan.specs.declared.columns.FileColumn.{FileColumn}
-use Rattle.plan.specs.declared.link.Uses.{Uses}
-use Rattle.plan.specs.declared.link.UsedColumn.{UsedColumn}
 use Rattle.plan.specs.declared.refusal.BuildRefusal.{BuildRefusal}
 use Rattle.plan.specs.Shapes.{Shape}
-use Rattle.plan.specs.Forms.{Formed, shape_in}
-use Rattle.plan.specs.Meaning.{ShapeOf, ShapeIsMeant}
-use Rattle.plan.specs.Flat.{flat, held, ShapeHeld}
-use Rattle.plan.specs.Links.{last_of, link_all, used_of, uses_in, Linked, DistinctIn, UseAll, Apart}
+use Rattle.plan.specs.Forms.{shape_in}
+use Rattle.plan.specs.Meaning.{ShapeIsMeant}
+use Rattle.plan.specs.Flat.{ShapeHeld}
+use Rattle.plan.specs.Links.{last_of, link_all, used_of, uses_in, Linked, DistinctIn}
 use Rattle.plan.specs.FileColumns.{file_column, file_column_of, listed}
 use Rattle.plan.specs.Pool.{short_name, names_held}
-use Rattle.plan.specs.Building.{Planned, plan_of, tree_names, PlanHeld, PlannedAs, PlanFor, NoPlanFor, MeantFor}
+use Rattle.plan.specs.Building.{plan_of, tree_names, PlannedAs, MeantFor}
 use Rattle.plan.proofs.ShapeLaw.{shape_meant}
 
 -- a name that fits is not cut

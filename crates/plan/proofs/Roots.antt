@@ -1,5 +1,5 @@
 -- The shape of a whole schema. Assumes nothing.
-use Rattle.std.proofs.Common.{◌≡◌, ℕ, List, [], ◌∷◌, ◌++◌, take, Ok, Err, Result, sym, refl, ap, ◌∙◌, subst, append-nil}
+use Rattle.std.proofs.Common.{◌≡◌, ℕ, [], ◌++◌, take, Ok, Err, Result, sym, ap, ◌∙◌, subst, append-nil}
 use Rattle.schema.specs.declared.tree.Schema.{Schema}
 use Rattle.schema.specs.Schemas.{Node, group, Tree}
 use Rattle.schema.specs.Image.{size, leaves}
@@ -7,9 +7,9 @@ use Rattle.schema.specs.Tables.{rows}
 use Rattle.schema.specs.Answering.{Holds, root_heading}
 use Rattle.plan.specs.declared.refusal.BuildRefusal.{BuildRefusal}
 use Rattle.plan.specs.declared.shape.ShapeTable.{ShapeTable}
-use Rattle.plan.specs.Forms.{Formed, form_in, shape_in}
+use Rattle.plan.specs.Forms.{form_in, shape_in}
 use Rattle.plan.specs.Standing.{Stands}
-use Rattle.plan.specs.Flat.{flat, held, Appended, ShapeHeld}
+use Rattle.plan.specs.Flat.{flat, Appended, ShapeHeld}
 
 -- a schema as one node
 abbrev pub root_node : Tree → Node

@@ -1,7 +1,6 @@
 -- What the entry of a node tells of the rules. Assumes nothing.
-use Rattle.std.proofs.Common.{◌≡◌, ℕ, suc, ◌+◌, ◌<◌, ◌≤◌, Bool, true, false, not, ◌&&◌, ◌||◌, eqb, ◌⊎◌, List, [], ◌∷◌, ◌++◌, Some, None, Option, sym, refl, ap, ◌∙◌, subst, ⊎_elim, one-add, arith}
+use Rattle.std.proofs.Common.{◌≡◌, ℕ, suc, ◌+◌, ◌<◌, ◌≤◌, true, false, not, ◌&&◌, ◌||◌, ◌⊎◌, Some, None, Option, sym, refl, ap, ◌∙◌, subst, ⊎_elim, one-add, arith}
 use Rattle.std.proofs.lemmas.Bool.{ne_eqb, and_left, and_right}
-use Rattle.schema.specs.declared.entry.Body.{Body}
 use Rattle.schema.specs.declared.entry.Body.TheVariants.{Group, Primitive}
 use Rattle.schema.specs.declared.entry.Header.{Header}
 use Rattle.schema.specs.declared.entry.Leaf.{Leaf}
@@ -11,7 +10,7 @@ use Rattle.schema.specs.Schemas.{Heading, Node, leaf, group, Nodes, none, more, 
 use Rattle.schema.specs.Image.{size, sizes, leaves, leaves_of}
 use Rattle.schema.specs.Columns.{heading}
 use Rattle.plan.specs.declared.refusal.BuildRefusal.{BuildRefusal}
-use Rattle.plan.specs.declared.refusal.BuildRefusal.TheVariants.{EmptyGroup, BadList, BadMap, RepeatedCollection}
+use Rattle.plan.specs.declared.refusal.BuildRefusal.TheVariants.{EmptyGroup, BadList, BadMap}
 use Rattle.plan.specs.Forms.{collection, is_collection, is_repeated, collects, is_empty, is_key, is_entry, is_middle_of_map, named_as_element, middle_is_element, repeats_only, list_rule, map_rule, fields_rule, group_rule, rule_broken, Formed, body_by, collection_by, element_by, group_by}
 use Rattle.plan.specs.Standing.{Stands, StandAll, own_row, Shows, Found, heading_of, collects_body, empty_body, key_body}
 use Rattle.plan.proofs.Places.{fields_stand, first_stands}

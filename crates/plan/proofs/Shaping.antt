@@ -1,24 +1,24 @@
 -- How the shapes of nodes are put together. Assumes nothing.
-use Rattle.std.proofs.Common.{◌≡◌, ℕ, zero, suc, ◌+◌, ◌-◌, ◌*◌, ◌<◌, ◌≤◌, Bool, true, false, cond, not, ◌&&◌, ◌||◌, List, [], ◌∷◌, ◌++◌, length, Some, None, Ok, Err, Option, Result, sym, refl, ap, ◌∙◌, subst, ⊎_elim, add-zero, one-add, arith}
+use Rattle.std.proofs.Common.{◌≡◌, ℕ, zero, suc, ◌+◌, ◌-◌, ◌*◌, ◌<◌, ◌≤◌, true, false, not, ◌&&◌, ◌∷◌, length, Some, None, Ok, Err, Option, Result, sym, refl, ap, ◌∙◌, subst, ⊎_elim, add-zero, one-add, arith}
 use Rattle.std.proofs.lemmas.Bool.{cond-true, cond-false, cases_Bool, and_parts}
-use Rattle.schema.specs.declared.entry.Body.TheVariants.{Group as GroupBody, Primitive}
+use Rattle.schema.specs.declared.entry.Body.TheVariants.{Primitive}
 use Rattle.schema.specs.declared.entry.Leaf.{Leaf}
 use Rattle.schema.specs.declared.tree.Schema.{Schema}
 use Rattle.schema.specs.Schemas.{Heading, Node, leaf, group, Nodes, none, more, count}
 use Rattle.schema.specs.Image.{size, sizes, leaves, leaves_of}
 use Rattle.schema.specs.Columns.{heading}
 use Rattle.plan.specs.declared.refusal.BuildRefusal.{BuildRefusal}
-use Rattle.plan.specs.declared.refusal.BuildRefusal.TheVariants.{EmptyGroup, BadList, BadMap, RepeatedCollection}
-use Rattle.plan.specs.declared.shape.Form.TheVariants.{Leaf as LeafForm, Group, List as ListForm, Map as MapForm}
+use Rattle.plan.specs.declared.refusal.BuildRefusal.TheVariants.{EmptyGroup}
+use Rattle.plan.specs.declared.shape.Form.TheVariants.{Group, List as ListForm, Map as MapForm}
 use Rattle.plan.specs.declared.shape.ShapeTable.{ShapeTable}
-use Rattle.plan.specs.Shapes.{Shape, leaf as leaf_shape, group as group_shape, repeated, ◌&◌, as_list, as_map, width, first_leaf}
-use Rattle.plan.specs.Forms.{Formed, forming, fields_by, group_by, element_by, only_field, list_by, entry_by, map_by, body_by, wrapped, unless_broken, rule_broken, middle_is_element, is_empty, is_repeated, collects, repeats_only, is_middle_of_map, is_entry, is_key, list_rule, map_rule, form_in}
+use Rattle.plan.specs.Shapes.{group as group_shape, repeated, ◌&◌, as_list, as_map, first_leaf}
+use Rattle.plan.specs.Forms.{Formed, forming, fields_by, group_by, element_by, only_field, list_by, map_by, body_by, wrapped, unless_broken, rule_broken, middle_is_element, is_empty, is_repeated, is_middle_of_map, is_entry, is_key, list_rule, map_rule, form_in}
 use Rattle.plan.specs.Standing.{Stands, StandAll, own_row, two_fields}
-use Rattle.plan.specs.Flat.{entry, flat, held, pushed, wrapped_table, leaf_table, Appended, Roomy, RoomyAfter}
+use Rattle.plan.specs.Flat.{entry, flat, pushed, leaf_table, Appended, RoomyAfter}
 use Rattle.plan.proofs.Places.{fields_stand, first_stands, others_stand}
-use Rattle.plan.proofs.Rules.{clash, same_count, list_lacks, list_unrepeated, map_bad}
-use Rattle.plan.proofs.Forming.{Fine, Begins, fields_begin, form_begins, element_begins}
-use Rattle.plan.proofs.Appending.{under, beside, first_flat, leaf_appended, wrap_appended, roomy_from}
+use Rattle.plan.proofs.Rules.{clash, list_lacks, list_unrepeated, map_bad}
+use Rattle.plan.proofs.Forming.{fields_begin, form_begins, element_begins}
+use Rattle.plan.proofs.Appending.{under, beside, first_flat, leaf_appended}
 
 -- a leaf, and its room
 pub body_leaf : (one : ℕ → ℕ → Node → Formed) (t v : ShapeTable) (at next : ℕ) (x : Node) (l : Leaf) → (own_row x).body ≡ Primitive l → t.len < length t.entries → v ≡ leaf_table t at → next ≡ at + 1

@@ -12,7 +12,7 @@ use Rattle.plan.specs.declared.link.UsedColumn.{UsedColumn}
 use Rattle.plan.specs.declared.refusal.BuildRefusal.{BuildRefusal}
 use Rattle.plan.specs.declared.refusal.BuildRefusal.TheVariants.{BatchSize, Image}
 use Rattle.plan.specs.Shapes.{Shape}
-use Rattle.plan.specs.Forms.{Formed, shape_in}
+use Rattle.plan.specs.Forms.{shape_in}
 use Rattle.plan.specs.Meaning.{ShapeOf, Broken, root}
 use Rattle.plan.specs.Flat.{flat, held}
 use Rattle.plan.specs.Links.{link_all, used_of, UseAll, Apart, Distinct}

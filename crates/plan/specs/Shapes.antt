@@ -1,5 +1,5 @@
 -- The shapes of rows. Assumes nothing.
-use Rattle.std.specs.Prelude.{ℕ, suc, List, [], ◌∷◌, ◌++◌}
+use Rattle.std.specs.Prelude.{ℕ, suc}
 
 -- a repeated node is shown as a list, or as a map
 pub data Many : Type 0 where

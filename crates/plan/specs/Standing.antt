@@ -1,5 +1,5 @@
 -- What a read schema shows of a node. Assumes nothing.
-use Rattle.std.specs.Prelude.{◌≡◌, ℕ, Bool, true, false, not, List, ◌++◌, drop, Some, None, Option, ◌==◌}
+use Rattle.std.specs.Prelude.{◌≡◌, ℕ, Bool, false, not, List, ◌++◌, drop, Some, None, Option, ◌==◌}
 use Rattle.schema.specs.declared.entry.NodeEntry.{NodeEntry}
 use Rattle.schema.specs.declared.entry.Header.{Header}
 use Rattle.schema.specs.declared.entry.Body.{Body}

@@ -1,4 +1,6 @@
 //! Plans: the shape of rows and the columns that they use.
+#![tactic(auto)]
+
 mod build;
 mod columns;
 mod form;

@@ -2,8 +2,8 @@
 use Rattle.std.proofs.Common.{◌≡◌, ℕ, ◌<◌, ◌≤◌, true, false, List, length, take, drop}
 use Rattle.std.proofs.lemmas.Bool.{le-ltb, lt-ltb}
 use Rattle.utf8.specs.Unicode.{well_formed}
-use Rattle.varint.specs.Parsed.{Parsed, got, refused}
-use Rattle.schema.specs.declared.refusal.ImageRefusal.TheVariants.{Malformed, Limit}
+use Rattle.varint.specs.Parsed.{got, refused}
+use Rattle.schema.specs.declared.refusal.ImageRefusal.TheVariants.{Malformed}
 use Rattle.schema.specs.Reading.{number_here, name_in}
 
 -- a length n of at most 255 is read, and `rest` stands after it

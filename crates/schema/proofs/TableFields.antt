@@ -1,11 +1,11 @@
 -- What the loop over the fields of a group keeps. Assumes nothing.
-use Rattle.std.proofs.Common.{◌≡◌, ℕ, zero, suc, ◌+◌, ◌-◌, ◌<◌, ◌≤◌, List, [], ◌∷◌, ◌++◌, length, Ok, Err, Result, sym, refl, ap, ◌∙◌, subst, append_assoc, append-nil, arith}
+use Rattle.std.proofs.Common.{◌≡◌, ℕ, suc, ◌+◌, ◌-◌, ◌<◌, ◌≤◌, List, [], ◌++◌, length, Ok, sym, refl, ap, ◌∙◌, append_assoc, append-nil, arith}
 use native.Mathlib.Nat.{sub-zero}
 use Rattle.schema.specs.declared.refusal.ImageRefusal.{ImageRefusal}
 use Rattle.schema.specs.declared.column.ColumnPath.{ColumnPath}
 use Rattle.schema.specs.declared.table.Table.{Table}
 use Rattle.schema.specs.Schemas.{Heading, Node, Nodes, none, more}
-use Rattle.schema.specs.Reading.{Place, Grown, grew, fell, growing, node_in, fields_by}
+use Rattle.schema.specs.Reading.{Grown, grew, fell, growing, node_in, fields_by}
 use Rattle.schema.specs.Columns.{columns_all}
 use Rattle.schema.specs.Tables.{place, rows_held, columns_held, rows, rows_of, node_columns, trail, Added}
 

@@ -1,11 +1,9 @@
 -- What a step of reading adds to the table. Assumes nothing.
-use Rattle.std.proofs.Common.{◌≡◌, ℕ, zero, suc, ◌+◌, ◌-◌, ◌<◌, ◌≤◌, Bool, true, false, cond, leb, List, [], ◌∷◌, ◌++◌, map, length, take, drop, set, Ok, Err, Result, sym, refl, ap, ◌∙◌, subst, append_assoc, append-nil, arith}
+use Rattle.std.proofs.Common.{◌≡◌, ℕ, zero, suc, ◌+◌, ◌<◌, Bool, List, [], ◌∷◌, ◌++◌, map, length, take, drop, Ok, Err, Result, sym, refl, ap, ◌∙◌, subst, append_assoc, arith}
 use Rattle.std.proofs.lemmas.List.{take_more_set, map_push}
-use Rattle.std.proofs.lemmas.Bool.{lt-leb, le-leb}
-use Rattle.basic.specs.Codes.{flag_code, flags}
-use Rattle.varint.specs.Parsed.{Parsed, got, refused}
+use Rattle.std.proofs.lemmas.Bool.{lt-leb}
+use Rattle.varint.specs.Parsed.{got}
 use Rattle.schema.specs.declared.refusal.ImageRefusal.{ImageRefusal}
-use Rattle.schema.specs.declared.refusal.ImageRefusal.TheVariants.{Malformed, Limit}
 use Rattle.schema.specs.declared.entry.Leaf.{Leaf}
 use Rattle.schema.specs.declared.entry.Header.{Header}
 use Rattle.schema.specs.declared.entry.Body.TheVariants.{Group, Primitive}
@@ -13,11 +11,11 @@ use Rattle.schema.specs.declared.entry.NodeEntry.{NodeEntry}
 use Rattle.schema.specs.declared.column.Column.{Column}
 use Rattle.schema.specs.declared.column.ColumnPath.{ColumnPath}
 use Rattle.schema.specs.declared.table.Table.{Table}
-use Rattle.schema.specs.Schemas.{Heading, Node, leaf, group, Nodes, none, more, count}
-use Rattle.schema.specs.Reading.{number_here, heading_in, code_in, leaf_in, Place, Grown, grew, fell, growing, reading, leaf_body, fields_by, fields_body, node_of, node_by, at_byte, node_in}
+use Rattle.schema.specs.Schemas.{Node, leaf, group, Nodes, more, count}
+use Rattle.schema.specs.Reading.{number_here, leaf_in, Place, Grown, grew, fell, growing, leaf_body, fields_by, fields_body}
 use Rattle.schema.specs.Places.{Reads, plain, headed}
-use Rattle.schema.specs.Columns.{ColumnOf, column_at, columns_at, columns_all, max_definition, max_repetition, repetition_of, parts, made, defines, repeats}
-use Rattle.schema.specs.Tables.{Row, rows, rows_of, row, trail, node_columns, column_read, rows_held, columns_held, place, pushed_node, pushed_column, Added}
+use Rattle.schema.specs.Columns.{ColumnOf, column_at, parts, made, defines, repeats}
+use Rattle.schema.specs.Tables.{Row, rows, rows_of, row, trail, column_read, rows_held, columns_held, place, pushed_node, pushed_column, Added}
 use Rattle.schema.proofs.Paths.{count_map}
 
 rows_push : (bytes : List ℕ) (t : Table) (e : NodeEntry) → t.nodes < length t.entries → rows_held bytes (pushed_node t e) ≡ rows_held bytes t ++ row bytes e ∷ []

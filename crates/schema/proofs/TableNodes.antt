@@ -1,17 +1,17 @@
 -- How the reading of a node goes on to that of a leaf or a group. Assumes nothing.
-use Rattle.std.proofs.Common.{◌≡◌, ℕ, zero, suc, ◌+◌, ◌-◌, ◌<◌, ◌≤◌, Bool, true, false, cond, leb, List, [], ◌∷◌, ◌++◌, map, length, drop, Ok, Err, Result, sym, refl, ap, ◌∙◌, subst, arith, length-drop, drop_of_length-le}
+use Rattle.std.proofs.Common.{◌≡◌, ℕ, zero, suc, ◌+◌, ◌-◌, ◌<◌, ◌≤◌, Bool, true, false, List, [], ◌∷◌, ◌++◌, map, length, drop, Ok, Err, Result, sym, refl, ap, ◌∙◌, subst, arith, length-drop, drop_of_length-le}
 use Rattle.std.proofs.lemmas.List.{map_push}
 use Rattle.std.proofs.lemmas.Bool.{lt-leb, le-leb}
 use Rattle.basic.specs.Codes.{flag_code, flags}
-use Rattle.varint.specs.Parsed.{Parsed, got, refused}
+use Rattle.varint.specs.Parsed.{got, refused}
 use Rattle.schema.specs.declared.refusal.ImageRefusal.{ImageRefusal}
 use Rattle.schema.specs.declared.refusal.ImageRefusal.TheVariants.{Malformed, Limit}
 use Rattle.schema.specs.declared.entry.Header.{Header}
 use Rattle.schema.specs.declared.column.ColumnPath.{ColumnPath}
 use Rattle.schema.specs.declared.table.Table.{Table}
-use Rattle.schema.specs.Schemas.{Heading, Node, leaf, group, Nodes}
+use Rattle.schema.specs.Schemas.{Heading, leaf, group}
 use Rattle.schema.specs.Reading.{heading_in, code_in, Place, Grown, grew, fell, growing, reading, leaf_body, fields_body, node_of, node_by, at_byte, node_in}
-use Rattle.schema.specs.Places.{Reads, plain, headed}
+use Rattle.schema.specs.Places.{headed}
 use Rattle.schema.specs.Columns.{ColumnOf, column_at, columns_at, columns_all, parts}
 use Rattle.schema.specs.Tables.{Row, rows, trail, node_columns, rows_held, columns_held, place, Added}
 

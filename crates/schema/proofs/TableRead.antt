@@ -1,26 +1,26 @@
 -- How a whole image is read. Assumes nothing.
-use Rattle.std.proofs.Common.{◌≡◌, ℕ, ◌+◌, ◌-◌, ◌<◌, ◌≤◌, ltb, List, [], ◌∷◌, ◌++◌, map, length, get_or, take, drop, None, Ok, Err, Result, sym, refl, ap, ◌∙◌, subst, arith, length-drop}
+use Rattle.std.proofs.Common.{◌≡◌, ℕ, ◌-◌, ◌<◌, ◌≤◌, ltb, List, [], ◌++◌, map, length, get_or, take, drop, None, Ok, Err, Result, sym, refl, ap, ◌∙◌, subst, arith, length-drop}
 use Rattle.std.specs.List.{AllByRecursion}
 use Rattle.std.proofs.ByRecursion.{All-from_get_or}
 use Rattle.std.proofs.lemmas.Bool.{lt-ltb, le-ltb}
 use Rattle.basic.specs.declared.types.Repetition.TheVariants.{Required}
-use Rattle.varint.specs.Parsed.{Parsed, got, refused}
+use Rattle.varint.specs.Parsed.{got, refused}
 use Rattle.schema.specs.declared.refusal.ImageRefusal.{ImageRefusal}
-use Rattle.schema.specs.declared.refusal.ImageRefusal.TheVariants.{Malformed, Limit}
+use Rattle.schema.specs.declared.refusal.ImageRefusal.TheVariants.{Malformed}
 use Rattle.schema.specs.declared.entry.Name.{Name}
 use Rattle.schema.specs.declared.entry.Header.{Header}
 use Rattle.schema.specs.declared.column.ColumnPath.{ColumnPath}
 use Rattle.schema.specs.declared.table.Table.{Table}
 use Rattle.schema.specs.declared.tree.Schema.{Schema}
-use Rattle.schema.specs.Schemas.{Heading, group, Nodes, Tree}
-use Rattle.schema.specs.Reading.{name_in, Place, Grown, grew, fell, fields_body, node_in, whole, schema_in}
-use Rattle.schema.specs.Places.{Reads, named, headed}
+use Rattle.schema.specs.Schemas.{group, Tree}
+use Rattle.schema.specs.Reading.{name_in, fell, fields_body, node_in, whole, schema_in}
+use Rattle.schema.specs.Places.{named, headed}
 use Rattle.schema.specs.Columns.{columns_all, parts}
-use Rattle.schema.specs.Tables.{Row, rows, row, trail, column_read, rows_held, columns_held, place, Added}
+use Rattle.schema.specs.Tables.{rows, row, trail, column_read, rows_held, columns_held, place, Added}
 use Rattle.schema.specs.Examples.{SchemaExamples}
 use Rattle.schema.proofs.Samples.{examples}
 use Rattle.schema.proofs.Answered.{accepted, refused as refuses}
-use Rattle.schema.specs.Answering.{Read, Accepted, Holds, root_heading, seen_rows, seen_columns}
+use Rattle.schema.specs.Answering.{Read, Accepted, root_heading}
 
 pub no_name : (bytes : List ℕ) (e : ImageRefusal) → name_in bytes ≡ refused e → schema_in bytes ≡ Err e
 unfolding schema_in

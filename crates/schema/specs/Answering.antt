@@ -1,5 +1,5 @@
 -- What reading an image answers. Assumes nothing.
-use Rattle.std.specs.Prelude.{◌≡◌, ℕ, List, [], ◌∷◌, take, None, Ok, Err, Result, ◌≢◌}
+use Rattle.std.specs.Prelude.{◌≡◌, ℕ, List, take, None, Ok, Err, Result, ◌≢◌}
 use Rattle.basic.specs.declared.types.Repetition.TheVariants.{Required}
 use Rattle.schema.specs.declared.refusal.ImageRefusal.{ImageRefusal}
 use Rattle.schema.specs.declared.entry.NodeEntry.{NodeEntry}

@@ -1,5 +1,5 @@
 -- The columns of a schema. Assumes nothing.
-use Rattle.std.specs.Prelude.{ℕ, suc, Bool, true, false, cond, List, [], ◌∷◌, ◌++◌, map, length, take, count_by}
+use Rattle.std.specs.Prelude.{ℕ, Bool, true, false, List, [], ◌∷◌, ◌++◌, map, take, count_by}
 use Rattle.basic.specs.declared.types.Repetition.{Repetition}
 use Rattle.basic.specs.declared.types.Repetition.TheVariants.{Required, Optional, Repeated}
 use Rattle.schema.specs.declared.entry.Header.{Header}

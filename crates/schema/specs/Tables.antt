@@ -3,7 +3,6 @@ use Rattle.std.specs.Prelude.{◌≡◌, ℕ, ◌+◌, ◌≤◌, List, [], ◌�
 use Rattle.schema.specs.declared.refusal.ImageRefusal.{ImageRefusal}
 use Rattle.schema.specs.declared.entry.Body.{Body}
 use Rattle.schema.specs.declared.entry.Body.TheVariants.{Group, Primitive}
-use Rattle.schema.specs.declared.entry.Leaf.{Leaf}
 use Rattle.schema.specs.declared.entry.NodeEntry.{NodeEntry}
 use Rattle.schema.specs.declared.column.Column.{Column}
 use Rattle.schema.specs.declared.column.ColumnPath.{ColumnPath}

@@ -1,4 +1,6 @@
 //! Schema images, read into a fixed table of nodes and columns.
+#![tactic(auto)]
+
 mod column;
 mod entry;
 mod limits;

@@ -1,10 +1,8 @@
 -- The texts that are printed. Assumes nothing.
-use Rattle.std.specs.Prelude.{ℕ, Bool, true, false, cond, List, [], ◌++◌, Some, None, codes, decimal, Option, ◌==◌}
+use Rattle.std.specs.Prelude.{ℕ, Bool, cond, List, [], ◌++◌, codes, decimal, ◌==◌}
 use Rattle.basic.specs.declared.types.PhysicalType.{PhysicalType}
 use Rattle.basic.specs.declared.types.PhysicalType.TheVariants as physical
-use Rattle.basic.specs.declared.types.ConvertedType.{ConvertedType}
-use Rattle.basic.specs.declared.types.ConvertedType.TheVariants as converted
-use Rattle.basic.specs.Names.{physical_name, converted_name}
+use Rattle.basic.specs.Names.{physical_name}
 use Rattle.schema.specs.declared.entry.Leaf.{Leaf}
 use Rattle.schema.specs.declared.refusal.ImageRefusal.{ImageRefusal}
 use Rattle.schema.specs.declared.refusal.ImageRefusal.TheVariants.{Malformed, Limit}

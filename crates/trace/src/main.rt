@@ -1,4 +1,6 @@
 //! `trace COMMAND < FILE`: what a trace file holds.
+#![tactic(auto)]
+
 mod columns;
 mod command;
 mod escape;

@@ -1,10 +1,10 @@
 -- The bytes of a trace are taken apart into that trace. Assumes nothing.
-use Rattle.std.proofs.Common.{◌≡◌, ℕ, ◌+◌, ◌^◌, ◌<◌, ◌≤◌, true, false, cond, ltb, List, [], ◌++◌, length, take, drop, Ok, Err, Result, sym, refl, ap, ◌∙◌, append_assoc, arith, length-append}
+use Rattle.std.proofs.Common.{◌≡◌, ℕ, ◌^◌, ◌<◌, ◌≤◌, List, [], ◌++◌, length, take, drop, Err, Result, sym, ap, ◌∙◌, append_assoc, arith, length-append}
 use lib.Seq.{take-append_seam, drop-append_seam}
 use Rattle.std.proofs.lemmas.List.{length-take, take-append-drop}
 use Rattle.std.proofs.lemmas.Bool.{le-ltb, lt-ltb}
-use Rattle.varint.specs.Number.{encoding, number_in}
-use Rattle.varint.specs.Parsed.{Parsed, got, refused, and_then}
+use Rattle.varint.specs.Number.{encoding}
+use Rattle.varint.specs.Parsed.{got, refused}
 use Rattle.varint.proofs.Encoding.{reads_back}
 use Rattle.trace_file.specs.declared.fault.Part.{Part}
 use Rattle.trace_file.specs.declared.fault.Part.TheVariants.{FileImage, ReadImage, Records, BatchSize}
@@ -13,7 +13,7 @@ use Rattle.trace_file.specs.declared.fault.HeadError.TheVariants.{ManyRecords}
 use Rattle.trace_file.specs.declared.head.Head.{Head}
 use Rattle.trace_file.specs.Format.{Trace, image_bytes, trace_bytes, Within}
 use Rattle.trace_file.specs.Reading.{told, number_of, image_of, records_of, parts_in, trace_in}
-use Rattle.trace_file.specs.Answers.{trace_of, AsRead, Means, ReadsBack}
+use Rattle.trace_file.specs.Answers.{AsRead, Means, ReadsBack}
 
 number_back : (part : Part) (n : ℕ) (rest : List ℕ) → n < 2 ^ 64 → number_of part (encoding n ++ rest) ≡ got n rest
 number_back part n rest h = ap (told part) (reads_back n rest h)

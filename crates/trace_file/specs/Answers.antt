@@ -1,5 +1,5 @@
 -- What the answers say. Assumes nothing.
-use Rattle.std.specs.Prelude.{◌≡◌, ℕ, ◌^◌, ◌<◌, List, [], ◌++◌, Ok, Err, Result, ◌≢◌}
+use Rattle.std.specs.Prelude.{◌≡◌, ℕ, List, [], ◌++◌, Ok, Err, Result, ◌≢◌}
 use Rattle.std.specs.Borrow.{Bor}
 use Rattle.varint.specs.Parsed.{Parsed, got, refused}
 use Rattle.trace_file.specs.declared.fault.HeadError.{HeadError}

@@ -1,4 +1,6 @@
 //! Trace files: two schema images, the number of records, the batch size, and batches.
+#![tactic(auto)]
+
 mod fault;
 mod head;
 

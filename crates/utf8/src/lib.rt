@@ -1,4 +1,6 @@
 //! Well-formed UTF-8, checked in one pass over bytes that may come in pieces.
+#![tactic(auto)]
+
 ghost use Rattle.std.specs.Prelude.{◌≡◌, ℕ, true, List, [], ◌++◌};
 ghost use Rattle.utf8.specs.Examples.{examples, Answered};
 ghost use Rattle.utf8.specs.States.{Fed, after};

@@ -1,10 +1,10 @@
 -- The shown word by its meaning. Assumes nothing.
-use Rattle.std.proofs.Common.{◌≡◌, ℕ, ◌+◌, ◌*◌, ◌/◌, ◌%◌, ◌^◌, ◌<◌, sym, refl, subst, arith}
+use Rattle.std.proofs.Common.{◌≡◌, ℕ, ◌/◌, ◌^◌, ◌<◌, sym, refl, subst, arith}
 use Rattle.std.proofs.lemmas.Nat.{shr_split, mod_below, pow_pos}
 use Rattle.plan.specs.declared.kind.FieldKind.{FieldKind}
 use Rattle.plan.specs.declared.kind.FieldKind.TheVariants as field
-use Rattle.value.specs.Numbers.{signed, word_of}
-use Rattle.value.specs.Leaves.{Reading, signed_low, plain_low, unread, reading, read_as, Reads}
+use Rattle.value.specs.Numbers.{signed}
+use Rattle.value.specs.Leaves.{signed_low, plain_low, reading, read_as, Reads}
 use Rattle.value.proofs.Signs.{signed_word_of, word_of_signed, mag8, mag16, mag32, mag64}
 
 plain : (bits n : ℕ) → Reads (plain_low bits) n (read_as (plain_low bits) n)

@@ -1,12 +1,12 @@
 -- Worked examples of leaves. Assumes nothing.
-use Rattle.std.specs.Prelude.{◌≡◌, ℕ, ◌-◌, ◌^◌, Bool, true, false, List, [], ◌∷◌, pos, negsuc}
+use Rattle.std.specs.Prelude.{◌≡◌, ℕ, ◌-◌, ◌^◌, true, false, List, [], ◌∷◌, negsuc}
 use Rattle.basic.specs.declared.types.PhysicalType.{PhysicalType}
 use Rattle.basic.specs.declared.types.PhysicalType.TheVariants as physical
 use Rattle.plan.specs.declared.kind.FieldKind.{FieldKind}
 use Rattle.plan.specs.declared.kind.FieldKind.TheVariants as field
 use Rattle.value.specs.declared.leaf.LeafType.{LeafType}
-use Rattle.value.specs.Values.{Value, word, int96, run}
-use Rattle.value.specs.Numbers.{big_endian, millis_of}
+use Rattle.value.specs.Values.{word, int96, run}
+use Rattle.value.specs.Numbers.{millis_of}
 use Rattle.value.specs.Leaves.{fitting, Shown, shown}
 
 abbrev pub leaf_of : PhysicalType → FieldKind → LeafType

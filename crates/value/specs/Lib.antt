@@ -1,4 +1,4 @@
 pub mod Values
-pub mod numbers_shape
+pub mod Numbers
 pub mod Leaves
 pub mod Examples

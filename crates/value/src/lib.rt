@@ -1,4 +1,6 @@
 //! The values of columns: which of them a leaf takes, and what they are shown as.
+#![tactic(auto)]
+
 mod leaf;
 mod shown;
 mod types;

@@ -1,5 +1,7 @@
 //! The numbers of schema images and traces: groups of seven bits, lowest first, the top bit set on every byte but the last,
 //! in shortest form, below 2^64.
+#![tactic(auto)]
+
 ghost use Rattle.std.specs.Prelude.{drop};
 ghost use Rattle.varint.specs.Number.{number_in};
 ghost use Rattle.varint.specs.Reading.{Reads};

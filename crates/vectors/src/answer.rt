@@ -1,6 +1,5 @@
 // What the libraries answer, as text.
 use crate::case::Group;
-use crate::source::{batches_text, entries_text};
 use basic::Code;
 use plan::{Form, Plan, ShapeEntry};
 use schema::{Body, Column, Header, ImageRefusal, NodeEntry, Schema};
@@ -18,8 +17,6 @@ pub(crate) fn answer(heap: Global, group: Group, bytes: &[u8]) -> Result<String,
         Group::Nodes => nodes_text(heap, bytes),
         Group::Head => head_text(heap, bytes),
         Group::Plan => plan_text(heap, bytes),
-        Group::Batches => batches_text(heap, bytes),
-        Group::Entries => entries_text(heap, bytes),
     }
 }
 
@@ -97,7 +94,7 @@ fn nodes_text(heap: Global, bytes: &[u8]) -> Result<String, AllocError> {
 }
 
 /// Adds bytes in hexadecimal.
-pub(crate) fn push_hex(heap: Global, text: &mut String, bytes: &[u8]) -> Result<(), AllocError> {
+fn push_hex(heap: Global, text: &mut String, bytes: &[u8]) -> Result<(), AllocError> {
     for byte in bytes {
         text.push_str(format!(in heap; "{byte:02x}")?.as_str())?;
     }

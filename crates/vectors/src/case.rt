@@ -18,22 +18,16 @@ pub enum Group {
     Head,
     /// The plan that builds, one after the other, leave.
     Plan,
-    /// The columns of byte batches.
-    Batches,
-    /// The columns of an entry list.
-    Entries,
 }
 
 /// All groups, in the order of the report.
-pub(crate) const GROUPS: [Group; 8] = [
+pub(crate) const GROUPS: [Group; 6] = [
     Group::Utf8,
     Group::Number,
     Group::Image,
     Group::Nodes,
     Group::Head,
     Group::Plan,
-    Group::Batches,
-    Group::Entries,
 ];
 
 impl Group {
@@ -46,8 +40,6 @@ impl Group {
             Group::Nodes => "nodes",
             Group::Head => "head",
             Group::Plan => "plan",
-            Group::Batches => "batches",
-            Group::Entries => "entries",
         }
     }
 

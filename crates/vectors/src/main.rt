@@ -1,10 +1,11 @@
 //! Replays stored cases, one a line, and compares: `vectors < CASES`.
 //!
 //! A line is a group's name, the bytes in hexadecimal (`-`: none) and the answer expected; `#` begins a comment.
+#![tactic(auto)]
+
 mod answer;
 mod case;
 mod replay;
-mod source;
 
 use crate::replay::replay;
 use std::io;

@@ -45,8 +45,6 @@ struct Report {
     nodes: Tally,
     head: Tally,
     plan: Tally,
-    batches: Tally,
-    entries: Tally,
     all: Tally,
     failures: String,
 }
@@ -60,8 +58,6 @@ impl Report {
             nodes: Tally::none(),
             head: Tally::none(),
             plan: Tally::none(),
-            batches: Tally::none(),
-            entries: Tally::none(),
             all: Tally::none(),
             failures: String::new(heap),
         }
@@ -75,8 +71,6 @@ impl Report {
             Group::Nodes => self.nodes,
             Group::Head => self.head,
             Group::Plan => self.plan,
-            Group::Batches => self.batches,
-            Group::Entries => self.entries,
         }
     }
 
@@ -88,8 +82,6 @@ impl Report {
             Group::Nodes => self.nodes.add(is_expected),
             Group::Head => self.head.add(is_expected),
             Group::Plan => self.plan.add(is_expected),
-            Group::Batches => self.batches.add(is_expected),
-            Group::Entries => self.entries.add(is_expected),
         }
         self.all.add(is_expected);
     }

@@ -1,6 +1,6 @@
-use Rattle.std.proofs.Common.{◌≡◌, ◌+◌, Some, None, sym, refl, ap, ◌∙◌, arith, rules}
+use Rattle.std.proofs.Common.{◌≡◌, ◌+◌, Some, sym, ap, ◌∙◌, arith}
 use Rattle.basic.specs.Codes.{decoded, annotation_code, annotations, converted_code}
-use Rattle.basic.specs.Coded.{annotation_back, decoded_none}
+use Rattle.basic.specs.Coded.{annotation_back}
 use Rattle.basic.proofs.OptionConvertedTypeCode.from_code.Goals as goal
 
 pub returns-in-Some : goal.returns-in-Some

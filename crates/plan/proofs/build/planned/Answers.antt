@@ -1,4 +1,4 @@
-use Rattle.std.proofs.Common.{◌≡◌, sym, refl, ◌∙◌}
+use Rattle.std.proofs.Common.{refl, ◌∙◌}
 use Rattle.std.proofs.lemmas.Result.{err_from_is_err_and}
 use Rattle.plan.proofs.Planning.{names_kept, columns_kept, shape_refused, shape_refused_means, uses_refused, uses_refused_means, made, made_means}
 use Rattle.plan.proofs.build.planned.Goals as goal

@@ -1,4 +1,4 @@
-use Rattle.std.proofs.Common.{◌≡◌, sym, ◌∙◌}
+use Rattle.std.proofs.Common.{sym, ◌∙◌}
 use Rattle.plan.specs.Forms.{list_rule}
 use Rattle.plan.specs.Standing.{heading_of}
 use Rattle.plan.proofs.Rules.{by_alone, shown_repeated, list_none, list_many, list_unrepeated, list_lacks, list_bad, list_good}

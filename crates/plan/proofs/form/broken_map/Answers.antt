@@ -1,4 +1,4 @@
-use Rattle.std.proofs.Common.{◌≡◌, sym, ◌∙◌}
+use Rattle.std.proofs.Common.{sym, ◌∙◌}
 use Rattle.plan.specs.Forms.{map_rule}
 use Rattle.plan.proofs.Rules.{by_alone, map_none, map_many, map_good, map_bad}
 use Rattle.plan.proofs.form.broken_map.Goals as goal

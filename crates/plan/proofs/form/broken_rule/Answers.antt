@@ -1,9 +1,9 @@
-use Rattle.std.proofs.Common.{◌≡◌, cond, Some, None, sym, ap, ◌∙◌}
+use Rattle.std.proofs.Common.{◌≡◌, Some, None, sym, ap, ◌∙◌}
 use Rattle.std.proofs.lemmas.Bool.{cond-true, cond-false}
 use Rattle.plan.specs.declared.refusal.BuildRefusal.TheVariants.{RepeatedCollection}
 use Rattle.plan.specs.Forms.{is_repeated, first_of, list_rule, map_rule, group_rule}
 use Rattle.plan.specs.Standing.{heading_of}
-use Rattle.plan.proofs.Rules.{shown_body, rule_leaf, Grouped, grouped, fields_none, fields_some}
+use Rattle.plan.proofs.Rules.{shown_body, rule_leaf, grouped, fields_none, fields_some}
 use Rattle.plan.proofs.form.broken_rule.Goals as goal
 use Rattle.plan.proofs.form.broken_rule.Goals.{Joined-is_repeated, then-is_repeated, else-is_repeated}
 

@@ -1,4 +1,4 @@
-use Rattle.std.proofs.Common.{◌≡◌, ◌||◌, sym, ap, ◌∙◌}
+use Rattle.std.proofs.Common.{◌||◌, sym, ap, ◌∙◌}
 use Rattle.plan.specs.Forms.{repeats_only}
 use Rattle.plan.proofs.Rules.{shown_collects}
 use Rattle.plan.proofs.form.collects_or_repeats.Goals as goal

@@ -1,6 +1,4 @@
-use Rattle.std.proofs.Common.{◌≡◌, ◌<◌, length, get_or, sym, ap, ◌∙◌, subst, arith}
-use Rattle.schema.specs.Answering.{entries_of}
-use Rattle.plan.specs.Standing.{Shows}
+use Rattle.std.proofs.Common.{length, ap, arith}
 use Rattle.plan.proofs.Places.{stands_inside, shown_in}
 use Rattle.plan.proofs.form.entry_at.Goals as goal
 

@@ -1,5 +1,5 @@
-use Rattle.std.proofs.Common.{◌≡◌, sym, ap, ◌∙◌, inl, inr}
-use Rattle.plan.proofs.Rules.{shown-heading, shown_body, shown_repeated, shown_key, middle_leaf, middle_count, middle_unrepeated, middle_key}
+use Rattle.std.proofs.Common.{sym, ◌∙◌, inl, inr}
+use Rattle.plan.proofs.Rules.{shown_body, shown_repeated, shown_key, middle_leaf, middle_count, middle_unrepeated, middle_key}
 use Rattle.plan.proofs.form.is_middle_of_map.Goals as goal
 
 pub returns-in_default : goal.returns-in_default

@@ -1,9 +1,9 @@
-use Rattle.std.proofs.Common.{◌≡◌, Some, None, sym, ◌∙◌}
+use Rattle.std.proofs.Common.{Some, None, sym, ◌∙◌}
 use Rattle.std.proofs.lemmas.Slice.Eq.{slice_eq-Decides, strip_suffix_is}
 use Rattle.std.proofs.lemmas.Bool.{both_ways}
 use Rattle.std.proofs.lemmas.Bool.Decides.{Decides-like, Decides-eqb}
 use Rattle.schema.specs.Places.{named}
-use Rattle.plan.specs.Forms.{array_name, tuple_ending}
+use Rattle.plan.specs.Forms.{tuple_ending}
 use Rattle.plan.proofs.Names.{named_array, named_tuple, named_otherwise}
 use Rattle.plan.proofs.form.is_named_as_element.Goals as goal
 

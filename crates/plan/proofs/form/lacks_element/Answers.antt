@@ -1,4 +1,4 @@
-use Rattle.std.proofs.Common.{◌≡◌, not, ◌&&◌, sym, ap, ◌∙◌}
+use Rattle.std.proofs.Common.{not, ◌&&◌, sym, ap, ◌∙◌}
 use Rattle.plan.specs.Forms.{middle_is_element}
 use Rattle.plan.specs.Standing.{heading_of}
 use Rattle.plan.proofs.Rules.{shown_empty}

@@ -1,4 +1,4 @@
-use Rattle.std.proofs.Common.{◌≡◌, sym, ap, ◌∙◌}
+use Rattle.std.proofs.Common.{sym, ap, ◌∙◌}
 use Rattle.plan.specs.Forms.{named_as_element}
 use Rattle.plan.specs.Standing.{heading_of}
 use Rattle.plan.proofs.Rules.{shown-heading, shown_body, element_leaf, element_many, element_few}

@@ -1,4 +1,4 @@
-use Rattle.std.proofs.Common.{◌≡◌, Some, None, sym, ap, ◌∙◌}
+use Rattle.std.proofs.Common.{Some, None, sym, ap, ◌∙◌}
 use Rattle.schema.specs.declared.entry.Body.TheVariants.{Group}
 use Rattle.plan.specs.Forms.{is_repeated}
 use Rattle.plan.proofs.Rules.{shown-heading, shown_body, repeats_leaf, repeats_other, repeats_found}

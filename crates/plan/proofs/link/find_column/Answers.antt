@@ -1,4 +1,4 @@
-use Rattle.std.proofs.Common.{◌≡◌, ◌≤◌, true, false, length, sym, ap, ◌∙◌, subst, arith}
+use Rattle.std.proofs.Common.{◌≡◌, ◌≤◌, true, false, length, sym, ap, subst, arith}
 use lib.ListN.{length-map}
 use Rattle.schema.specs.Answering.{seen_columns}
 use Rattle.plan.specs.Links.{names, headings_of, highest, Highest}

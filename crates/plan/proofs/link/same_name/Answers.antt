@@ -1,4 +1,4 @@
-use Rattle.std.proofs.Common.{◌≡◌, length, get_or, ap}
+use Rattle.std.proofs.Common.{length, get_or, ap}
 use Rattle.plan.proofs.LinkSame.{same_step, same_all, agree, differ, decides_name}
 use Rattle.plan.proofs.link.same_name.Goals as goal
 

@@ -1,4 +1,4 @@
-use Rattle.std.proofs.Common.{◌≡◌, ◌<◌, [], length, get_or, sym, ap, ◌∙◌, arith}
+use Rattle.std.proofs.Common.{◌<◌, [], length, get_or, sym, ap, ◌∙◌, arith}
 use Rattle.std.proofs.lemmas.Bool.Decides.{not_from_Decides}
 use Rattle.plan.specs.Links.{names, headings_of}
 use Rattle.plan.proofs.LinkSame.{same_step, same_all, agree, differ, decides_name, decides_path, names-length, name-at}

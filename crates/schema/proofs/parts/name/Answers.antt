@@ -1,4 +1,4 @@
-use Rattle.std.proofs.Common.{◌≡◌, ◌+◌, ◌-◌, ◌<◌, ◌≤◌, Bool, length, take, drop, sym, ap, ◌∙◌, arith, length-drop, drop-drop}
+use Rattle.std.proofs.Common.{◌≡◌, ◌+◌, ◌-◌, take, drop, sym, ap, ◌∙◌, arith, length-drop, drop-drop}
 use Rattle.utf8.specs.Unicode.{well_formed}
 use Rattle.varint.specs.Parsed.{got}
 use Rattle.schema.proofs.Names.{name_short, name_broken, name_whole}

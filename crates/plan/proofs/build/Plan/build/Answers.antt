@@ -1,6 +1,6 @@
-use Rattle.std.proofs.Common.{◌≡◌, sym, refl, ap, ◌∙◌, subst, inl, inr, ⊎_elim}
+use Rattle.std.proofs.Common.{refl, inl, inr, ⊎_elim}
 use Rattle.std.proofs.lemmas.Result.{err_from_is_err_and}
-use Rattle.plan.proofs.Builds.{ReadAs, read_as, batch_refused, file_refused, read_refused, plan_refused, plan_built}
+use Rattle.plan.proofs.Builds.{read_as, batch_refused, file_refused, read_refused, plan_refused, plan_built}
 use Rattle.plan.proofs.build.Plan.build.Goals as goal
 
 pub returns-then-batch_size-eq0 : goal.returns-then-batch_size-eq0

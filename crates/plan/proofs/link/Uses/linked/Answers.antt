@@ -1,7 +1,5 @@
-use Rattle.std.proofs.Common.{◌≡◌, ◌<◌, ◌≤◌, List, length, Some, None, Ok, Err, sym, refl, ap, ◌∙◌, arith, length-take, rules}
+use Rattle.std.proofs.Common.{◌<◌, length, Err, sym, ap, ◌∙◌, rules}
 use Rattle.std.proofs.lemmas.Result.{err_from_is_err_and}
-use Rattle.schema.specs.Columns.{ColumnOf}
-use Rattle.plan.specs.Kinds.{shown_kind}
 use Rattle.plan.specs.Links.{used_of, shown_as}
 use Rattle.plan.specs.declared.refusal.BuildRefusal.TheVariants.{PathMissing, NoConversion}
 use Rattle.plan.proofs.LinkLeaf.{refused_by, found_in, leaf_missing, leaf_again, leaf_differs, leaf_shown}

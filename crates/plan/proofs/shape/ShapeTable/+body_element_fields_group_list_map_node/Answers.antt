@@ -1,15 +1,15 @@
-use Rattle.std.proofs.Common.{◌≡◌, ◌+◌, ◌-◌, ◌≤◌, Some, None, Ok, Err, sym, refl, ap, ◌∙◌, subst, arith}
+use Rattle.std.proofs.Common.{◌+◌, ◌-◌, Ok, sym, ap, ◌∙◌, subst, arith}
 use Rattle.std.proofs.lemmas.Result.{err_from_is_err_and}
 use Rattle.schema.specs.Schemas.{none}
 use Rattle.schema.specs.Image.{size, sizes, leaves, leaves_of}
-use Rattle.plan.specs.Forms.{form_in, body_by, collection_by, element_by, group_by, group_rule, middle_is_element, fields_by, map_by, forming, wrapped}
+use Rattle.plan.specs.Forms.{form_in, body_by, collection_by, element_by, group_rule, fields_by, map_by, forming, wrapped}
 use Rattle.plan.specs.Standing.{StandAll, heading_of, two_fields}
 use Rattle.plan.specs.Flat.{Appended}
 use Rattle.plan.proofs.Places.{first_stands}
-use Rattle.plan.proofs.Rules.{shown_body, shown-heading, Grouped, grouped}
+use Rattle.plan.proofs.Rules.{shown_body, shown-heading, grouped}
 use Rattle.plan.proofs.Forming.{body_begins, form_begins}
 use Rattle.plan.proofs.Appending.{exits, restated, wrap_appended, wrapped-leaves, roomy_from, roomy_err}
-use Rattle.plan.proofs.Shaping.{body_leaf, element_leaf, leaf_roomy, fields_refused, fields_last, fields_more, group_none, group_more, form_none, form_broken, form_body, ListOfMiddle, list_kept, list_middle, list_field, map_kept, map_middle_stands, map_keys, map_refused, map_pairs}
+use Rattle.plan.proofs.Shaping.{body_leaf, element_leaf, leaf_roomy, fields_refused, fields_last, fields_more, group_none, group_more, form_none, form_broken, form_body, list_kept, list_middle, list_field, map_kept, map_middle_stands, map_keys, map_refused, map_pairs}
 use Rattle.plan.proofs.shape.ShapeTable.+body_element_fields_group_list_map_node.Goals as goal
 
 pub body-returns-in_default : goal.body-returns-in_default

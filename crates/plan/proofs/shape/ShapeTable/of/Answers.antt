@@ -1,4 +1,4 @@
-use Rattle.std.proofs.Common.{◌≤◌, arith}
+use Rattle.std.proofs.Common.{arith}
 use Rattle.std.proofs.lemmas.Result.{err_from_is_err_and}
 use Rattle.plan.proofs.Roots.{root_node, root_stands, root_formed, root_refused}
 use Rattle.plan.proofs.shape.ShapeTable.of.Goals as goal

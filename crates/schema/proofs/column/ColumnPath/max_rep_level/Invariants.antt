@@ -1,4 +1,4 @@
-use Rattle.std.proofs.Common.{◌≡◌, map, take, count_by}
+use Rattle.std.proofs.Common.{◌≡◌, take, count_by}
 use Rattle.schema.specs.Columns.{repeats}
 use Rattle.schema.proofs.column.ColumnPath.max_rep_level.Given as goal
 

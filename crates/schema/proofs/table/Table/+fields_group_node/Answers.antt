@@ -1,11 +1,11 @@
-use Rattle.std.proofs.Common.{◌≡◌, ◌-◌, ◌<◌, sym, refl, ap, ◌∙◌, arith}
+use Rattle.std.proofs.Common.{◌-◌, ◌<◌, arith}
 use Rattle.std.proofs.lemmas.Result.{err_from_is_err_and}
 use Rattle.schema.specs.Columns.{columns_all}
 use Rattle.schema.specs.Reading.{node_in}
 use Rattle.schema.specs.Tables.{rows, rows_of, trail, node_columns}
 use Rattle.schema.proofs.TableFields.{start, again, stops, done}
 use Rattle.schema.proofs.TableGrowth.{group_added, exits}
-use Rattle.schema.proofs.TableNodes.{node_ends, node_deep, node_full, node_no_heading, node_no_kind, Begun, leaf_node, group_node}
+use Rattle.schema.proofs.TableNodes.{node_ends, node_deep, node_full, node_no_heading, node_no_kind, leaf_node, group_node}
 use Rattle.schema.proofs.table.Table.+fields_group_node.Goals as goal
 use Rattle.schema.proofs.table.Table.+fields_group_node.Goals.{node-then-depth-ge-MAX_LEVELS-via-then-depth-ge-MAX_LEVELS, node-then-depth-ge-MAX_LEVELS-via-else-depth-ge-MAX_LEVELS+then-self-ge-MAX_NODES}
 

@@ -1,4 +1,3 @@
-use Rattle.std.proofs.Common.{◌≡◌, sym, refl, ap, ◌∙◌}
 use Rattle.schema.proofs.TableGrowth.{leaf_added}
 use Rattle.schema.proofs.table.Table.leaf.Goals as goal
 
