@@ -1,14 +1,13 @@
 -- Looking for the first bad entry. Assumes nothing.
-use Rattle.std.proofs.Common.{◌≡◌, ℕ, ◌+◌, ◌<◌, ◌≤◌, Bool, true, false, cond, ◌&&◌, List, [], ◌∷◌, ◌++◌, length, get_or, take, drop, Some, None, Option, sym, refl, ap, ◌∙◌, arith}
+use Rattle.std.proofs.Common.{◌≡◌, ℕ, ◌+◌, ◌<◌, ◌≤◌, Bool, true, false, cond, List, [], ◌∷◌, ◌++◌, length, get_or, take, drop, Some, None, Option, sym, refl, ap, ◌∙◌, arith}
 use Rattle.std.proofs.lemmas.List.{at_drop_more, at_drop_all, append-nil, append_assoc, take_more, take_all}
 use Rattle.std.proofs.lemmas.Bool.{and_from}
 use Rattle.column.specs.declared.entry.Entry.{Entry}
-use Rattle.column.specs.declared.fault.SourceFault.{SourceFault}
 use Rattle.column.specs.declared.fault.SourceFaultKind.{SourceFaultKind}
 use Rattle.column.specs.declared.shape.ColumnShape.{ColumnShape}
 use Rattle.column.specs.Faults.{fault_at}
-use Rattle.column.specs.Meaning.{Ending, clean, failing}
-use Rattle.column.specs.Entries.{entry_fault, is_good, all_good, good_front, ending_from, ending_by, Checked}
+use Rattle.column.specs.Meaning.{Ending, failing}
+use Rattle.column.specs.Entries.{entry_fault, is_good, all_good, good_front, ending_from, Checked}
 
 module _ (xs : List ColumnShape) (n : ℕ) where
   -- the entries before the first bad one are good

@@ -1,6 +1,6 @@
 -- What a delivery of a source over entries answers and leaves. Assumes nothing.
-use Rattle.std.proofs.Common.{◌≡◌, ℕ, ◌+◌, ◌<◌, ◌≤◌, Bool, true, false, cond, ◌&&◌, ltb, leb, ◌≢◌, ◌⊎◌, List, [], ◌∷◌, ◌++◌, map, length, get_or, take, drop, set, IfSome, Some, None, Option, sym, refl, ap, ◌∙◌, subst, inl, inr, ⊎_elim, arith}
-use Rattle.std.proofs.lemmas.List.{get_or-set_same, get_or-set_other, nil_from_length}
+use Rattle.std.proofs.Common.{◌≡◌, ℕ, ◌<◌, ◌≤◌, Bool, true, false, cond, ◌&&◌, ltb, leb, ◌≢◌, ◌⊎◌, List, [], length, get_or, take, drop, set, IfSome, Some, None, Option, sym, refl, ap, ◌∙◌, subst, ⊎_elim, arith}
+use Rattle.std.proofs.lemmas.List.{get_or-set_same, get_or-set_other}
 use Rattle.std.proofs.lemmas.Bool.{lt-ltb, le-ltb, ltb-true, leb-true, cases_lt, cases_eq, both_ways}
 use Rattle.plan.specs.declared.kind.ValueKind.{ValueKind}
 use Rattle.value.specs.declared.types.Value.{Value}
@@ -8,11 +8,11 @@ use Rattle.column.specs.declared.entry.Entry.{Entry}
 use Rattle.column.specs.declared.fault.SourceFault.{SourceFault}
 use Rattle.column.specs.declared.shape.ColumnShape.{ColumnShape}
 use Rattle.column.specs.Faults.{misuse}
-use Rattle.column.specs.Meaning.{Triplet, Ending, clean, failing, Column, Meaning, column_of, coming_of, ending_of, told, after, same_kind}
+use Rattle.column.specs.Meaning.{Triplet, Column, Meaning, column_of, coming_of, ending_of, same_kind}
 use Rattle.column.specs.Delivery.{Memory, slices, askable, well_asked, Stands, Handed, Declined}
 use Rattle.column.specs.Columns.{shape_at, shape_in, column_by}
 use Rattle.column.specs.Entries.{all_good, triplets_of, ending_by, entries_left}
-use Rattle.column.specs.Gathering.{triplets_from, ColumnOfKind, Gathering, Gathered}
+use Rattle.column.specs.Gathering.{triplets_from, ColumnOfKind, Gathered}
 use Rattle.column.proofs.Goods.{column_kind}
 use Rattle.column.proofs.Numbered.{column_by_lem, told_by, same_by, after_by}
 

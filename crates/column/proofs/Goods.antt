@@ -1,5 +1,5 @@
 -- What holds of good entries. Assumes nothing.
-use Rattle.std.proofs.Common.{◌≡◌, ℕ, ◌+◌, ◌<◌, ◌≤◌, Bool, true, false, cond, not, ◌&&◌, eqb, ltb, List, [], ◌∷◌, ◌++◌, map, length, get_or, drop, Some, None, filter, Option, sym, refl, ap, ◌∙◌, subst, ⊎_elim, arith}
+use Rattle.std.proofs.Common.{◌≡◌, ℕ, ◌<◌, ◌≤◌, Bool, true, false, cond, not, ◌&&◌, eqb, List, [], ◌∷◌, map, length, get_or, drop, Some, None, filter, Option, sym, refl, ap, ◌∙◌, subst, ⊎_elim, arith}
 use Rattle.std.specs.List.{AllByRecursion as All}
 use Rattle.std.proofs.ByRecursion.{All-weaker, All-drop}
 use Rattle.std.proofs.lemmas.List.Filters.{length-filter_both}
@@ -14,22 +14,22 @@ use Rattle.column.specs.declared.fault.SourceFaultKind.{SourceFaultKind}
 use Rattle.column.specs.declared.fault.SourceFaultKind.TheVariants.{BadColumn, BadValues, BadRun}
 use Rattle.column.specs.declared.shape.ColumnShape.{ColumnShape}
 use Rattle.column.specs.Meaning.{Triplet, Sound, carries, lies, same_kind, kind_of}
-use Rattle.column.specs.Columns.{shape_at, shape_in}
-use Rattle.column.specs.Entries.{triplet_of, triplet_fault, entry_fault, is_good, all_good, of_column, triplets_of, ending_by, entries_left}
+use Rattle.column.specs.Columns.{shape_at}
+use Rattle.column.specs.Entries.{triplet_of, triplet_fault, is_good, all_good, of_column, triplets_of, ending_by, entries_left}
 use Rattle.column.specs.Gathering.{OfKind, ColumnOfKind}
 use Rattle.column.proofs.Sounds.{every_all, sound_by}
 
 -- a kind that is the same is equal
-pub same_kind : (a b : ValueKind) → same_kind a b ≡ true → a ≡ b
-same_kind kind.Word kind.Word h = refl
-same_kind kind.Word kind.Int96 h = absurd (both_ways false refl h)
-same_kind kind.Word kind.Run h = absurd (both_ways false refl h)
-same_kind kind.Int96 kind.Word h = absurd (both_ways false refl h)
-same_kind kind.Int96 kind.Int96 h = refl
-same_kind kind.Int96 kind.Run h = absurd (both_ways false refl h)
-same_kind kind.Run kind.Word h = absurd (both_ways false refl h)
-same_kind kind.Run kind.Int96 h = absurd (both_ways false refl h)
-same_kind kind.Run kind.Run h = refl
+pub same_kind_lem : (a b : ValueKind) → same_kind a b ≡ true → a ≡ b
+same_kind_lem kind.Word kind.Word h = refl
+same_kind_lem kind.Word kind.Int96 h = absurd (both_ways false refl h)
+same_kind_lem kind.Word kind.Run h = absurd (both_ways false refl h)
+same_kind_lem kind.Int96 kind.Word h = absurd (both_ways false refl h)
+same_kind_lem kind.Int96 kind.Int96 h = refl
+same_kind_lem kind.Int96 kind.Run h = absurd (both_ways false refl h)
+same_kind_lem kind.Run kind.Word h = absurd (both_ways false refl h)
+same_kind_lem kind.Run kind.Int96 h = absurd (both_ways false refl h)
+same_kind_lem kind.Run kind.Run h = refl
 
 abbrev fine : Option SourceFaultKind → Bool
 fine o = elim o [ None ↦ true | Some f ↦ false ]
@@ -73,7 +73,7 @@ module _ (xs : List ColumnShape) (n : ℕ) where
 
   value_kind_lem : (x : ColumnShape) (k : ValueKind) (d : ℕ) (o : Option Value) → elim o [ None ↦ not (eqb d x.max_def_level) | Some v ↦ eqb d x.max_def_level && same_kind (kind_of v) x.kind ] ≡ true → same_kind x.kind k ≡ true → OfKind k o
   value_kind_lem x k d None h s = tt
-  value_kind_lem x k d (Some v) h s = ap (same_kind (kind_of v)) (sym (same_kind x.kind k s)) ∙ (and_parts _ _ h).1
+  value_kind_lem x k d (Some v) h s = ap (same_kind (kind_of v)) (sym (same_kind_lem x.kind k s)) ∙ (and_parts _ _ h).1
 
   -- the values of a column are of its kind
   pub column_kind : (k : ValueKind) (c : ℕ) (es : List Entry) → all_good xs n es ≡ true → same_kind (shape_at xs c).kind k ≡ true → ColumnOfKind k c es

@@ -1,5 +1,5 @@
 -- A source over entries, as it is made. Assumes nothing.
-use Rattle.std.proofs.Common.{◌≡◌, ℕ, zero, suc, ◌+◌, ◌-◌, ◌<◌, ◌≤◌, Bool, true, false, cond, ◌&&◌, leb, ◌⊎◌, List, [], ◌∷◌, map, length, get_or, take, drop, replicate, Some, None, Option, sym, refl, ap, ◌∙◌, subst, inl, inr, ⊎_elim, arith, length-take}
+use Rattle.std.proofs.Common.{◌≡◌, ℕ, zero, suc, ◌-◌, ◌<◌, ◌≤◌, Bool, true, false, cond, ◌&&◌, leb, ◌⊎◌, List, [], length, get_or, take, drop, replicate, Some, Option, sym, refl, ap, ◌∙◌, ⊎_elim, arith, length-take}
 use native.Mathlib.Nat.{sub-zero}
 use Rattle.std.proofs.lemmas.List.{drop_all}
 use Rattle.std.proofs.lemmas.Bool.{le-leb, lt-leb, and_left, and_right, and_from}
@@ -8,7 +8,7 @@ use Rattle.column.specs.declared.fault.SourceFault.{SourceFault}
 use Rattle.column.specs.declared.fault.SourceFaultKind.TheVariants.{TooLarge}
 use Rattle.column.specs.declared.shape.ColumnShape.{ColumnShape}
 use Rattle.column.specs.Faults.{fault_at}
-use Rattle.column.specs.Meaning.{Triplet, Ending, failing, Meaning}
+use Rattle.column.specs.Meaning.{failing, Meaning}
 use Rattle.column.specs.Columns.{meaning_by}
 use Rattle.column.specs.Entries.{triplets_of, all_good, good_front, ending_from, ending_by, entries_mean, entries_left, Checked}
 use Rattle.column.proofs.Numbered.{same_by}

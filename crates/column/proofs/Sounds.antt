@@ -1,11 +1,11 @@
 -- What holds of every source, column by column. Assumes nothing.
-use Rattle.std.proofs.Common.{◌≡◌, ℕ, zero, suc, ◌<◌, ◌≤◌, Bool, true, false, ◌&&◌, ltb, List, [], ◌∷◌, map, length, get_or, sym, refl, ap, ◌∙◌, subst, ⊎_elim, arith}
+use Rattle.std.proofs.Common.{◌≡◌, ℕ, zero, suc, ◌<◌, ◌≤◌, Bool, true, ◌&&◌, ltb, List, [], ◌∷◌, length, get_or, refl, ap, ◌∙◌, ⊎_elim, arith}
 use Rattle.std.specs.List.{AllByRecursion as All}
 use Rattle.std.proofs.ByRecursion.{All-weaker}
 use Rattle.std.proofs.lemmas.List.{get_or_past}
 use Rattle.std.proofs.lemmas.Bool.{ltb-true, cases_lt, and_parts, and_from}
 use Rattle.column.specs.declared.shape.ColumnShape.{ColumnShape}
-use Rattle.column.specs.Meaning.{Triplet, Ending, Column, Meaning, no_column, column_of, coming_of, carries, lies, every, sound_column, Sound}
+use Rattle.column.specs.Meaning.{Triplet, Ending, Meaning, no_column, column_of, coming_of, carries, lies, every, sound_column, Sound}
 use Rattle.column.specs.Columns.{column_by, meaning_by}
 use Rattle.column.proofs.Numbered.{column_by_lem, length_by}
 

@@ -1,5 +1,5 @@
 -- The walk of a delivery through a list of entries. Assumes nothing.
-use Rattle.std.proofs.Common.{◌≡◌, ℕ, suc, ◌+◌, ◌<◌, ◌≤◌, Bool, true, false, cond, eqb, List, [], ◌∷◌, ◌++◌, map, length, get_or, take, drop, set, Some, None, filter, Option, sym, refl, ap, ◌∙◌, subst, arith}
+use Rattle.std.proofs.Common.{◌≡◌, ℕ, suc, ◌+◌, ◌<◌, ◌≤◌, Bool, cond, List, [], ◌∷◌, ◌++◌, map, length, get_or, take, drop, set, Some, None, filter, Option, sym, refl, ap, ◌∙◌, subst, arith}
 use Rattle.std.proofs.lemmas.List.{at_drop_more, at_drop_all, append-nil, append_assoc, length-drop, length-map, length_push, length-take-le, drop_more, drop-drop, drop-set-lt, take_more, take_more_set, map_push, set_at}
 use Rattle.std.proofs.lemmas.Bool.{eq-eqb, ne_eqb}
 use Rattle.value.specs.declared.types.Value.{Value}
@@ -7,7 +7,7 @@ use Rattle.column.specs.declared.entry.Entry.{Entry}
 use Rattle.column.specs.Meaning.{Triplet}
 use Rattle.column.specs.Delivery.{Memory, slices, repetition_of, definition_of, value_in, values_of, Stands}
 use Rattle.column.specs.Entries.{triplet_of, of_column, triplets_of}
-use Rattle.column.specs.Gathering.{no_entry, triplets_from, Reached, ValueWritten, Written, Gathering, Gathered}
+use Rattle.column.specs.Gathering.{no_entry, triplets_from, Reached, Written, Gathering, Gathered}
 
 module _ (c : ℕ) (es : List Entry) (p : ℕ) (within : p < length es) where
   abbrev read : Entry

@@ -14,7 +14,7 @@ shape_of c = record { kind = c.kind; max_def_level = c.max_def_level; max_rep_le
 
 -- the kinds and maxima of a plan's file columns, of which there are at most 64; an unbuilt plan has none
 abbrev pub plan_shapes : Plan → List ColumnShape
-plan_shapes p = map shape_of (take 64 (listed p.parts.columns))
+plan_shapes p = map shape_of (take 64 (listed p.columns))
 
 -- the columns of a table
 abbrev pub shapes_in : ColumnTable → List ColumnShape

@@ -9,7 +9,7 @@ use Rattle.column.specs.declared.fault.SourceFault.{SourceFault}
 use Rattle.column.specs.declared.shape.ColumnShape.{ColumnShape}
 use Rattle.column.specs.declared.batch.Batch.{Batch}
 use Rattle.column.specs.Faults.{misuse}
-use Rattle.column.specs.Meaning.{Triplet, Ending, clean, failing, Meaning, coming_of, ending_of, told, after, same_kind, run_lies}
+use Rattle.column.specs.Meaning.{Triplet, clean, failing, Meaning, coming_of, ending_of, told, after, same_kind, run_lies}
 
 -- the memory of a delivery: one place for each repetition and definition level, and for each value
 pub record Memory (V : Type 0) : Type 0 where

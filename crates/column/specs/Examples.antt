@@ -7,7 +7,7 @@ use Rattle.column.specs.declared.entry.Entry.{Entry}
 use Rattle.column.specs.declared.fault.SourceFaultKind.TheVariants.{BadColumn, BadValues, BadRun}
 use Rattle.column.specs.declared.shape.ColumnShape.{ColumnShape}
 use Rattle.column.specs.Faults.{fault_at}
-use Rattle.column.specs.Meaning.{Triplet, Ending, clean, failing, Meaning, coming_of, ending_of, after}
+use Rattle.column.specs.Meaning.{clean, failing, Meaning, coming_of, ending_of, after}
 use Rattle.column.specs.Delivery.{values_of}
 use Rattle.column.specs.Entries.{triplet_of, entries_mean}
 

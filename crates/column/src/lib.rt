@@ -1,4 +1,6 @@
 //! Sources of triplets, column by column.
+#![tactic(auto)]
+
 mod asking;
 mod batch;
 mod entries;

@@ -1,5 +1,7 @@
 //! Shredding rows into columns of triplets and assembling them again: the definitions, and the theorem that the two
 //! agree. There is nothing to run here; each function stands for what its contract says.
+#![tactic(auto)]
+
 ghost use Rattle.dremel.specs.Agreement.{Agreement, Runs, ShreddingIsFaithful, Unrolled};
 ghost use Rattle.dremel.specs.Levels.{LevelsAreTheSchemas};
 ghost use Rattle.dremel.specs.Looks.{Looks, LooksUnrolled};

@@ -9,10 +9,10 @@ pub returns-then-not-is_askable : goal.returns-then-not-is_askable
 returns-then-not-is_askable g c =
     let s = c.args.self.now in
     let b = slices c.args.repetitions.now c.args.definitions.now c.args.values.now in
-    record { delivers = misused g.V.ColumnValue.val g.V.ColumnValue.kind (shapes_in s.table) s.entries.now s.cursors s.fault s.pool.now c.args.column c.args.k b c.get-shape.result c.get-shape.ensures.tells c.value_kind_lem.result c.value_kind_lem.ensures (sym c.if-not-is_askable.ensures); one_to_k = tt }
+    record { delivers = misused g.V.ColumnValue.val g.V.ColumnValue.kind (shapes_in s.table) s.entries.now s.cursors s.fault s.pool.now c.args.column c.args.k b c.get-shape.result c.get-shape.ensures.tells c.value_kind.result c.value_kind.ensures (sym c.if-not-is_askable.ensures); one_to_k = tt }
 
-pub offset-bounds-self-column : goal.offset-bounds-self-column
-offset-bounds-self-column g c =
+pub offset_bounds-self-column : goal.offset_bounds-self-column
+offset_bounds-self-column g c =
     let below = asked_below _ _ _ _ _ _ c.args.column (sym c.if-not-is_askable.ensures) c.get-shape.ensures.below_64 in
     search rules
 
@@ -23,19 +23,19 @@ pub gather-taken-requires : goal.gather-taken-requires
 gather-taken-requires g c =
     let s = c.args.self.now in
     let b = slices c.args.repetitions.now c.args.definitions.now c.args.values.now in
-    let given = walk_given g.V.ColumnValue.val g.V.ColumnValue.kind (shapes_in s.table) s.entries.now s.cursors s.fault s.pool.now c.args.column c.args.k b c.get-shape.result c.get-shape.ensures.tells c.value_kind_lem.result c.value_kind_lem.ensures (sym c.if-not-is_askable.ensures) s.good in
+    let given = walk_given g.V.ColumnValue.val g.V.ColumnValue.kind (shapes_in s.table) s.entries.now s.cursors s.fault s.pool.now c.args.column c.args.k b c.get-shape.result c.get-shape.ensures.tells c.value_kind.result c.value_kind.ensures (sym c.if-not-is_askable.ensures) s.good in
     record { room = given.0; kind = given.1 }
 
-pub offset-bounds-self-column-2 : goal.offset-bounds-self-column-2
-offset-bounds-self-column-2 g c =
+pub offset_bounds-self-column-2 : goal.offset_bounds-self-column-2
+offset_bounds-self-column-2 g c =
     let below = asked_below _ _ _ _ _ _ c.args.column (sym c.if-not-is_askable.ensures) c.get-shape.ensures.below_64 in
     search rules
 
 pub bounds-self-column-2 : goal.bounds-self-column-2
 bounds-self-column-2 g c = asked_below _ _ _ _ _ _ c.args.column (sym c.if-not-is_askable.ensures) c.get-shape.ensures.below_64
 
-pub invariant-of-self : goal.invariant-of-self
-invariant-of-self g c = let s = c.args.self.now in (s.good, (s.few, (sound_left (shapes_in s.table) s.entries.now _ s.fault s.pool.now s.good s.few, tt)))
+pub invariant_of-self : goal.invariant_of-self
+invariant_of-self g c = let s = c.args.self.now in record { good = s.good; few = s.few; sound = sound_left (shapes_in s.table) s.entries.now _ s.fault s.pool.now s.good s.few }
 
 pub returns-in-None : goal.returns-in-None
 returns-in-None g c =
@@ -46,8 +46,8 @@ returns-in-None g c =
     let below = asked_below _ _ _ _ _ _ c.args.column right c.get-shape.ensures.below_64 in
     let long : length s.cursors ≡ 64 = search rules in
     record {
-      delivers = handed g.V.ColumnValue.val g.V.ColumnValue.kind (shapes_in s.table) s.entries.now s.cursors s.fault s.pool.now c.args.column c.args.k b c.get-shape.result c.get-shape.ensures.tells c.value_kind_lem.result c.value_kind_lem.ensures right (omega arith) b' c.gather-taken.result.at c.gather-taken.result.levels c.gather-taken.result.present c.gather-taken.ensures (inl c.in-None.is);
-      one_to_k = chosen g.V.ColumnValue.val g.V.ColumnValue.kind (shapes_in s.table) s.entries.now s.cursors s.fault s.pool.now c.args.column c.args.k b c.get-shape.result c.get-shape.ensures.tells c.value_kind_lem.result c.value_kind_lem.ensures right (omega arith) b' c.gather-taken.result.at c.gather-taken.result.levels c.gather-taken.result.present c.gather-taken.ensures;
+      delivers = handed g.V.ColumnValue.val g.V.ColumnValue.kind (shapes_in s.table) s.entries.now s.cursors s.fault s.pool.now c.args.column c.args.k b c.get-shape.result c.get-shape.ensures.tells c.value_kind.result c.value_kind.ensures right (omega arith) b' c.gather-taken.result.at c.gather-taken.result.levels c.gather-taken.result.present c.gather-taken.ensures (inl c.in-None.is);
+      one_to_k = chosen g.V.ColumnValue.val g.V.ColumnValue.kind (shapes_in s.table) s.entries.now s.cursors s.fault s.pool.now c.args.column c.args.k b c.get-shape.result c.get-shape.ensures.tells c.value_kind.result c.value_kind.ensures right (omega arith) b' c.gather-taken.result.at c.gather-taken.result.levels c.gather-taken.result.present c.gather-taken.ensures;
     }
 
 pub returns-then-taken-eq0 : goal.returns-then-taken-eq0
@@ -58,7 +58,7 @@ returns-then-taken-eq0 g c =
     let right = sym c.if-not-is_askable.ensures in
     let below = asked_below _ _ _ _ _ _ c.args.column right c.get-shape.ensures.below_64 in
     let long : length s.cursors ≡ 64 = search rules in
-    record { delivers = failed g.V.ColumnValue.val g.V.ColumnValue.kind (shapes_in s.table) s.entries.now s.cursors s.fault s.pool.now c.args.column c.args.k b c.get-shape.result c.get-shape.ensures.tells c.value_kind_lem.result c.value_kind_lem.ensures right (omega arith) b' c.gather-taken.result.at c.gather-taken.result.levels c.gather-taken.result.present c.gather-taken.ensures c.in-Some.fault c.if-taken-eq0.true c.in-Some.is; one_to_k = tt }
+    record { delivers = failed g.V.ColumnValue.val g.V.ColumnValue.kind (shapes_in s.table) s.entries.now s.cursors s.fault s.pool.now c.args.column c.args.k b c.get-shape.result c.get-shape.ensures.tells c.value_kind.result c.value_kind.ensures right (omega arith) b' c.gather-taken.result.at c.gather-taken.result.levels c.gather-taken.result.present c.gather-taken.ensures c.in-Some.fault c.if-taken-eq0.true c.in-Some.is; one_to_k = tt }
 
 pub returns-else-taken-eq0 : goal.returns-else-taken-eq0
 returns-else-taken-eq0 g c =
@@ -69,6 +69,6 @@ returns-else-taken-eq0 g c =
     let below = asked_below _ _ _ _ _ _ c.args.column right c.get-shape.ensures.below_64 in
     let long : length s.cursors ≡ 64 = search rules in
     record {
-      delivers = handed g.V.ColumnValue.val g.V.ColumnValue.kind (shapes_in s.table) s.entries.now s.cursors s.fault s.pool.now c.args.column c.args.k b c.get-shape.result c.get-shape.ensures.tells c.value_kind_lem.result c.value_kind_lem.ensures right (omega arith) b' c.gather-taken.result.at c.gather-taken.result.levels c.gather-taken.result.present c.gather-taken.ensures (inr c.if-taken-eq0.false);
-      one_to_k = chosen g.V.ColumnValue.val g.V.ColumnValue.kind (shapes_in s.table) s.entries.now s.cursors s.fault s.pool.now c.args.column c.args.k b c.get-shape.result c.get-shape.ensures.tells c.value_kind_lem.result c.value_kind_lem.ensures right (omega arith) b' c.gather-taken.result.at c.gather-taken.result.levels c.gather-taken.result.present c.gather-taken.ensures;
+      delivers = handed g.V.ColumnValue.val g.V.ColumnValue.kind (shapes_in s.table) s.entries.now s.cursors s.fault s.pool.now c.args.column c.args.k b c.get-shape.result c.get-shape.ensures.tells c.value_kind.result c.value_kind.ensures right (omega arith) b' c.gather-taken.result.at c.gather-taken.result.levels c.gather-taken.result.present c.gather-taken.ensures (inr c.if-taken-eq0.false);
+      one_to_k = chosen g.V.ColumnValue.val g.V.ColumnValue.kind (shapes_in s.table) s.entries.now s.cursors s.fault s.pool.now c.args.column c.args.k b c.get-shape.result c.get-shape.ensures.tells c.value_kind.result c.value_kind.ensures right (omega arith) b' c.gather-taken.result.at c.gather-taken.result.levels c.gather-taken.result.present c.gather-taken.ensures;
     }

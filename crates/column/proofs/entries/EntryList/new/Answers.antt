@@ -1,4 +1,4 @@
-use Rattle.std.proofs.Common.{◌≡◌, ◌<◌, [], Some, refl, ap, ◌∙◌, inl, inr, ⊎_elim, arith}
+use Rattle.std.proofs.Common.{◌<◌, [], Some, refl, ap, ◌∙◌, inl, inr, ⊎_elim, arith}
 use Rattle.column.specs.declared.fault.SourceFaultKind.TheVariants.{TooLarge}
 use Rattle.column.specs.Faults.{fault_at}
 use Rattle.column.specs.Columns.{shapes_in}
@@ -15,15 +15,15 @@ returns-then-entries-gt-MAX_MEMORY c =
       worked_examples = entry-examples;
     }
 
-pub invariant-of-result : goal.invariant-of-result
-invariant-of-result c = let few : 0 < 2147483648 = omega arith in (refl, (few, (sound_left (shapes_in c.of-table.result) [] (zeros 64) (Some (fault_at TooLarge 0)) [] refl few, tt)))
+pub invariant_of-result : goal.invariant_of-result
+invariant_of-result c = let few : 0 < 2147483648 = omega arith in record { good = refl; few = few; sound = sound_left (shapes_in c.of-table.result) [] (zeros 64) (Some (fault_at TooLarge 0)) [] refl few }
 
-pub invariant-of-result-2 : goal.invariant-of-result-2
-invariant-of-result-2 c =
+pub invariant_of-result-2 : goal.invariant_of-result-2
+invariant_of-result-2 c =
     let xs = shapes_in c.of-table.result in
     let good = made_good xs c.args.entries.now c.args.pool.now c.checked-good.result.0 c.checked-good.result.1 c.checked-good.ensures in
     let few = made_few xs c.args.entries.now c.args.pool.now c.checked-good.result.0 c.checked-good.result.1 c.checked-good.ensures c.if-entries-gt-MAX_MEMORY.false in
-    (good, (few, (sound_left xs _ (zeros 64) c.checked-good.result.1 c.args.pool.now good few, tt)))
+    record { good = good; few = few; sound = sound_left xs _ (zeros 64) c.checked-good.result.1 c.args.pool.now good few }
 
 pub returns : goal.returns
 returns c =

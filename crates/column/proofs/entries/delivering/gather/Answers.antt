@@ -1,4 +1,4 @@
-use Rattle.std.proofs.Common.{◌≡◌, ◌≤◌, arith}
+use Rattle.std.proofs.Common.{arith}
 use Rattle.std.proofs.ByRecursion.{All-get_or}
 use Rattle.column.specs.Delivery.{slices}
 use Rattle.column.specs.Gathering.{no_entry}

@@ -1,4 +1,4 @@
-use Rattle.std.proofs.Common.{◌≡◌, sym, refl, ap, ◌∙◌}
+use Rattle.std.proofs.Common.{◌∙◌}
 use Rattle.column.proofs.Walking.{its_own, others, none_left}
 use Rattle.column.proofs.entries.delivering.next_of.Goals as goal
 

@@ -1,4 +1,4 @@
-use Rattle.std.proofs.Common.{◌≡◌, sym, arith, rules}
+use Rattle.std.proofs.Common.{sym}
 use Rattle.column.proofs.Checks.{checking_none, checking_more, checked_bad, checked_all}
 use Rattle.column.proofs.entries.making.checked.Goals as goal
 

@@ -1,4 +1,4 @@
-use Rattle.std.proofs.Common.{◌≡◌, length, ap, ◌∙◌, arith, length-set}
+use Rattle.std.proofs.Common.{◌∙◌, arith, length-set}
 use Rattle.column.proofs.Tables.{shapes_more, shapes_all}
 use Rattle.column.proofs.table.ColumnTable.of.Goals as goal
 
