@@ -12,12 +12,14 @@ use Rattle.plan.specs.declared.build.Plan.{Plan}
 use Rattle.plan.specs.declared.refusal.BuildRefusal.{BuildRefusal}
 use Rattle.plan.specs.declared.refusal.BuildRefusal.TheVariants.{BatchSize, Image}
 use Rattle.plan.specs.Samples.{ShapeExamples}
-use Rattle.plan.specs.Building.{read_or, is_batch_size, plan_of, build_in, PlannedAs, MeantFor, Built, NoPlanFor, NamesBroken, Means}
+use Rattle.plan.specs.Building.{read_or, is_batch_size, plan_of, build_in, PlannedAs, MeantFor, Built, NoPlanFor, NamesBroken, Means, SaysWhy, Why, Explains}
 use Rattle.plan.proofs.Samples.{shape_examples}
+use Rattle.plan.specs.LinkSamples.{LinkExamples, BuildExamples}
+use Rattle.plan.proofs.LinkSamples.{link_examples, build_examples}
 
--- the three clauses of building
+-- the clauses of building
 abbrev Answer : Result Unit BuildRefusal → ℕ → List ℕ → List ℕ → Plan → Plan → Type 0
-Answer r k file read old new = record { builds : Built r k file read old new; builds_exactly_where_it_can : Means r k file read new; worked_examples : ShapeExamples }
+Answer r k file read old new = record { builds : Built r k file read old new; builds_exactly_where_it_can : Means r k file read new; says_why : Explains r k file read; worked_examples : ShapeExamples; worked_links : LinkExamples; worked_builds : BuildExamples }
 
 -- the schema that an image was read as
 pub record ReadAs (bytes : List ℕ) (s : Schema) (t : Tree) : Type 0 where
@@ -50,7 +52,10 @@ batch_refused k file read old c =
     record {
       builds = (let w = size_wrong k c in rw w, refl);
       builds_exactly_where_it_can = λ f t im. absurd (⊎_elim (λ z. omega (arith, im.least)) (λ m. omega (arith, im.most)) c);
+      says_why = λ f t im. absurd (⊎_elim (λ z. omega (arith, im.least)) (λ m. omega (arith, im.most)) c);
       worked_examples = shape_examples;
+      worked_links = link_examples;
+      worked_builds = build_examples;
     }
 
 -- the batch size is right
@@ -64,7 +69,10 @@ module _ (k : ℕ) (file read : List ℕ) (old : Plan) (least : k ≡ 0 → ⊥)
       record {
         builds = (let right = size_right in rw right (rw h), refl);
         builds_exactly_where_it_can = λ f t im. absurd (no-image f im.file_within im.file_image);
+        says_why = λ f t im. absurd (no-image f im.file_within im.file_image);
         worked_examples = shape_examples;
+        worked_links = link_examples;
+        worked_builds = build_examples;
       }
 
   module _ (sf : Schema) (f : Tree) (rf : ReadAs file sf f) where
@@ -77,7 +85,10 @@ module _ (k : ℕ) (file read : List ℕ) (old : Plan) (least : k ≡ 0 → ⊥)
         record {
           builds = (rw right (rw first (rw there)), refl);
           builds_exactly_where_it_can = λ g t im. absurd (no-image t im.read_within (im.read_image ∙ sym same));
+          says_why = λ g t im. absurd (no-image t im.read_within (im.read_image ∙ sym same));
           worked_examples = shape_examples;
+          worked_links = link_examples;
+          worked_builds = build_examples;
         }
 
     module _ (sr : Schema) (t : Tree) (rt : ReadAs (read_or file read) sr t) where
@@ -85,8 +96,8 @@ module _ (k : ℕ) (file read : List ℕ) (old : Plan) (least : k ≡ 0 → ⊥)
       unfolding build_in
       by_plan = let right = size_right in let first = rf.read in let second = rt.read in rw right (rw first (rw second))
 
-      pub plan_refused : (r : Result Unit BuildRefusal) (y x : BuildRefusal) → r ≡ Err y → y ≡ x → PlannedAs (Err x) (plan_of k f t) → MeantFor (Err x) f t → Answer r k file read old old
-      plan_refused r y x p q planned meant =
+      pub plan_refused : (r : Result Unit BuildRefusal) (y x : BuildRefusal) → r ≡ Err y → y ≡ x → PlannedAs (Err x) (plan_of k f t) → MeantFor (Err x) f t → SaysWhy (Err x) f t → Answer r k file read old old
+      plan_refused r y x p q planned meant why =
           subst (λ w. Answer w k file read old old) (sym p)
           (record {
             builds = (by_plan ∙ planned ∙ ap Err (sym q), refl);
@@ -94,7 +105,13 @@ module _ (k : ℕ) (file read : List ℕ) (old : Plan) (least : k ≡ 0 → ⊥)
                 let one = rt.only u im.read_within im.read_image in
                 let two = rf.only g im.file_within im.file_image in
                 subst (λ v. NoPlanFor v u × NamesBroken y u) (sym two) (subst (λ v. NoPlanFor f v × NamesBroken y v) (sym one) (meant.0, λ o broken. meant.1 o broken ∙ sym q));
+            says_why = λ g u im.
+                let one = rt.only u im.read_within im.read_image in
+                let two = rf.only g im.file_within im.file_image in
+                subst (λ v. Why y v u) (sym two) (subst (λ v. Why y f v) (sym one) (subst (λ e. Why e f t) (sym q) why));
             worked_examples = shape_examples;
+            worked_links = link_examples;
+            worked_builds = build_examples;
           })
 
       pub plan_built : (new : Plan) → PlannedAs (Ok new) (plan_of k f t) → MeantFor (Ok new) f t → Answer (Ok tt) k file read old new
@@ -107,5 +124,8 @@ module _ (k : ℕ) (file read : List ℕ) (old : Plan) (least : k ≡ 0 → ⊥)
               record { least = omega arith; most = most; file_within = rf.within; file_image = rf.is; read_within = rt.within; read_image = rt.is },
               meant,
             );
+            says_why = tt;
             worked_examples = shape_examples;
+            worked_links = link_examples;
+            worked_builds = build_examples;
           }

@@ -26,5 +26,6 @@ pub mod LinkTop
 pub mod LinkMeaning
 pub mod PoolNames
 pub mod ColumnsListed
+pub mod LinkSamples
 pub mod Planning
 pub mod Builds

@@ -1,17 +1,18 @@
 -- What linking by its steps means. Assumes nothing.
-use Rattle.std.proofs.Common.{◌≡◌, ℕ, zero, suc, Bool, true, false, cond, List, [], ◌∷◌, ◌++◌, get_or, Some, None, Ok, Err, Option, Result, sym, refl, ap, ◌∙◌, subst, ⊎_elim, arith}
-use Rattle.std.proofs.lemmas.Bool.{cases_Bool, cases_order, both_ways, or_left, or_right, or_from, or_parts}
+use Rattle.std.proofs.Common.{◌≡◌, ℕ, zero, suc, ◌<◌, ◌≤◌, Bool, true, false, cond, List, [], ◌∷◌, ◌++◌, get_or, Some, None, Ok, Err, Option, Result, sym, refl, ap, ◌∙◌, subst, ⊎_elim, append_assoc, arith}
+use Rattle.std.proofs.lemmas.Bool.{cases_Bool, cases_order, both_ways, false≢true, or_left, or_right, or_from, or_cases, or_parts}
 use Rattle.schema.specs.Columns.{ColumnOf}
 use Rattle.plan.specs.declared.kind.FieldKind.{FieldKind}
 use Rattle.plan.specs.declared.link.UsedColumn.{UsedColumn}
 use Rattle.plan.specs.declared.link.Uses.{Uses}
 use Rattle.plan.specs.declared.refusal.BuildRefusal.{BuildRefusal}
-use Rattle.plan.specs.declared.refusal.BuildRefusal.TheVariants.{PathAgain, RepetitionDiffers, NoConversion}
+use Rattle.plan.specs.declared.refusal.BuildRefusal.TheVariants.{PathAgain, PathMissing, RepetitionDiffers, NoConversion}
+use Rattle.plan.specs.Refusals.{refusal_number}
 use Rattle.plan.specs.Kinds.{shown_kind}
-use Rattle.plan.specs.Links.{path_names, same_path, same_parts, same_repetition, repetitions, annotations, last_of, any_on, highest, HasPath, Highest, shown_as, link_with, link_to, link_one, linking, link_all, UsesFor, UseAll, Apart, Linked, used_of, uses_in, DistinctIn}
+use Rattle.plan.specs.Links.{path_names, same_path, same_parts, same_repetition, repetitions, annotations, last_of, any_on, highest, HasPath, Highest, shown_as, link_with, link_to, link_one, linking, link_all, UsesFor, UseAll, Apart, Denies, path_again, path_missing, repetition_differs, no_conversion, FirstDenied, DeniesFirst, Linked, used_of, uses_in, DistinctIn}
 use Rattle.plan.proofs.LinkSame.{decides_path, decides_repetitions}
 use Rattle.plan.proofs.LinkFind.{highest_means}
-use Rattle.plan.proofs.LinkRules.{ok_err, err_ok, one_ok, parts_ok, none_ok, any_last, used_same, unused_after, linked_distinct}
+use Rattle.plan.proofs.LinkRules.{ok_err, err_ok, then_err, linked_more, one_ok, parts_ok, none_ok, any_last, used_same, unused_after, linked_distinct}
 
 -- there is one highest-numbered column
 highest-one : (columns : List ColumnOf) (path : List (List ℕ)) (a b : Option ℕ) → Highest a columns path → Highest b columns path → a ≡ b
@@ -97,11 +98,104 @@ module _ (file : List ColumnOf) where
       ap (λ r. linking r (λ w. linking (link_all file (earlier ++ c ∷ []) cs) (λ ws. Ok (w ∷ ws)))) (uses_one earlier c u f.0 all.0)
       ∙ ap (λ r. linking r (λ ws. Ok (u ∷ ws))) (complete (earlier ++ c ∷ []) cs us (fresh_push earlier c cs f.1 apart.0) apart.1 all.1)
 
+-- one of some columns has a path, so one has it
+has-any : (cs : List ColumnOf) (path : List (List ℕ)) → any_on cs path ≡ true → (k : ℕ) × HasPath cs path k
+has-any [] path h = absurd (false≢true h)
+has-any (c ∷ cs) path h =
+    ⊎_elim (λ a. (0, (omega arith, (decides_path (path_names c) path).0 a))) (λ a. let found = has-any cs path a in (suc found.0, (omega (arith, found.1.0), found.1.1)))
+    (or_cases (same_path (path_names c) path) (any_on cs path) h)
+
+-- what one column is refused for
+module _ (file earlier : List ColumnOf) (c : ColumnOf) where
+  -- it is refused for this, and for nothing with a lower number
+  abbrev Lowest : BuildRefusal → Type 0
+  Lowest e = Denies file earlier c e × ((o : BuildRefusal) → refusal_number o < refusal_number e → ¬ Denies file earlier c o)
+
+  -- nothing below a number if none of these
+  lower : (k : ℕ) → k ≤ 11 → (8 < k → (j : ℕ) → ¬ HasPath earlier (path_names c) j) → (9 < k → ¬ Highest None file (path_names c))
+      → (10 < k → (n : ℕ) → Highest (Some n) file (path_names c) → repetitions c.path ≡ repetitions (get_or file n c).path)
+      → (o : BuildRefusal) → refusal_number o < k → ¬ Denies file earlier c o
+  lower k top a b d o below (path_again {k = j} h) = a below j h
+  lower k top a b d o below (path_missing h) = b below h
+  lower k top a b d o below (repetition_differs {n = n} h ne) = ne (d below n h)
+  lower k top a b d o below (no_conversion h none) = omega (arith, top, below)
+
+  again : any_on earlier (path_names c) ≡ true → Lowest PathAgain
+  again some =
+      (path_again (has-any earlier (path_names c) some).1, lower 8 (omega arith) (λ lt. absurd (omega (arith, lt))) (λ lt. absurd (omega (arith, lt))) (λ lt. absurd (omega (arith, lt))))
+
+  module _ (fresh : any_on earlier (path_names c) ≡ false) where
+    not_again : (j : ℕ) → ¬ HasPath earlier (path_names c) j
+    not_again j h = both_ways (any_on earlier (path_names c)) fresh (any-has earlier (path_names c) j h)
+
+    missing : Highest None file (path_names c) → Lowest PathMissing
+    missing none = (path_missing none, lower 9 (omega arith) (λ lt. not_again) (λ lt. absurd (omega (arith, lt))) (λ lt. absurd (omega (arith, lt))))
+
+    module _ (n : ℕ) (found : Highest (Some n) file (path_names c)) where
+      not_missing : ¬ Highest None file (path_names c)
+      not_missing none = none n found.0
+
+      differs : ¬ (repetitions c.path ≡ repetitions (get_or file n c).path) → Lowest RepetitionDiffers
+      differs other = (repetition_differs found other, lower 10 (omega arith) (λ lt. not_again) (λ lt. not_missing) (λ lt. absurd (omega (arith, lt))))
+
+      unshown : repetitions c.path ≡ repetitions (get_or file n c).path → shown_kind (get_or file n c).leaf (last_of (annotations (get_or file n c).path)) ≡ None → Lowest NoConversion
+      unshown same none = (
+        no_conversion found none,
+        lower 11 (omega arith) (λ lt. not_again) (λ lt. not_missing)
+            (λ lt m h. let one : Some n ≡ Some m = highest-one file (path_names c) (Some n) (Some m) found h in let is : n ≡ m = cc in subst (λ k. repetitions c.path ≡ repetitions (get_or file k c).path) is same),
+      )
+
+      denied_with : (b : Bool) (kind : Option FieldKind) (e : BuildRefusal) → b ≡ same_parts same_repetition (repetitions c.path) (repetitions (get_or file n c).path)
+          → kind ≡ shown_kind (get_or file n c).leaf (last_of (annotations (get_or file n c).path)) → cond b (shown_as n kind) (Err RepetitionDiffers) ≡ Err e → Lowest e
+      denied_with true (Some kind) e is shown h = absurd (ok_err (record { column = n; kind = kind }) e h)
+      denied_with true None e is shown h =
+          let p : NoConversion ≡ e = cc in
+          subst Lowest p (unshown ((decides_repetitions (repetitions c.path) (repetitions (get_or file n c).path)).0 (sym is)) (sym shown))
+      denied_with false kind e is shown h =
+          let p : RepetitionDiffers ≡ e = cc in
+          let same = same_parts same_repetition (repetitions c.path) (repetitions (get_or file n c).path) in
+          subst Lowest p (differs (λ eq. both_ways same (sym is) ((decides_repetitions (repetitions c.path) (repetitions (get_or file n c).path)).1 eq)))
+
+  denied_by : (b : Bool) (o : Option ℕ) (e : BuildRefusal) → any_on earlier (path_names c) ≡ b → Highest o file (path_names c) → cond b (Err PathAgain) (link_to file c o) ≡ Err e → Lowest e
+  denied_by true o e any found h = let p : PathAgain ≡ e = cc in subst Lowest p (again any)
+  denied_by false None e any found h = let p : PathMissing ≡ e = cc in subst Lowest p (missing any found)
+  denied_by false (Some n) e any found h = denied_with any n found _ _ e refl refl h
+
+  denied_one : (e : BuildRefusal) → link_one file earlier c ≡ Err e → Lowest e
+  denied_one e h = denied_by (any_on earlier (path_names c)) (highest file (path_names c)) e refl (highest_means file (path_names c)) h
+
+-- a refusal is that of the first column refused
+first_denied : (file before cs : List ColumnOf) (us : List UsedColumn) (e : BuildRefusal) → link_all file [] before ≡ Ok us → link_all file before cs ≡ Err e → FirstDenied e file (before ++ cs)
+unfolding link_all
+first_denied file before [] us e linked h = absurd (ok_err [] e h)
+first_denied file before (c ∷ cs) us e linked h =
+    let rest = link_all file (before ++ c ∷ []) cs in
+    ⊎_elim
+    (λ a.
+    let well = sound file [] before us linked in
+    let low = denied_one file before c e a in
+    record { before = before; used = us; column = c; behind = cs; split = refl; apart = well.0; uses = well.1; denied = low.0; lowest = low.1 })
+    (λ a.
+    let more : link_all file [] (before ++ c ∷ []) ≡ Ok (us ++ a.0 ∷ []) = linked_more file [] before c us linked ∙ ap (λ r. linking r (λ u. Ok (us ++ u ∷ []))) a.1 in
+    ⊎_elim
+    (λ b. subst (FirstDenied e file) (append_assoc before (c ∷ []) cs) (first_denied file (before ++ c ∷ []) cs (us ++ a.0 ∷ []) e more b))
+    (λ b. absurd (ok_err (a.0 ∷ b.0) e b.2))
+    (then_err rest (λ ws. Ok (a.0 ∷ ws)) e a.2))
+    (then_err (link_one file before c) (λ u. linking rest (λ ws. Ok (u ∷ ws))) e h)
+
+links_none : (file : List ColumnOf) → link_all file [] [] ≡ Ok []
+unfolding link_all
+links_none file = refl
+
 -- what follows from the answer by value
 module _ (file columns : List ColumnOf) where
   pub means : (r : Result Uses BuildRefusal) → uses_in r ≡ link_all file [] columns → Linked r file columns
   means (Ok uses) e = sound file [] columns (used_of uses) (sym e)
   means (Err x) e = λ used apart all. ok_err used x (sym (complete file [] columns used (fresh_none columns) apart all) ∙ sym e)
+
+  pub denies_first : (r : Result Uses BuildRefusal) → uses_in r ≡ link_all file [] columns → DeniesFirst r file columns
+  denies_first (Ok uses) e = tt
+  denies_first (Err x) e = first_denied file [] columns [] x (links_none file) (sym e)
 
   pub distinct : (r : Result Uses BuildRefusal) → uses_in r ≡ link_all file [] columns → DistinctIn r
   distinct (Ok uses) e = linked_distinct file [] columns (used_of uses) (sym e)

@@ -27,7 +27,7 @@ then_ok (Ok x) f y e = (x, refl, e)
 then_ok (Err x) f y e = absurd (err_ok y x e)
 
 -- what goes on and is refused was refused before or is then
-then_err : {A B : Type 0} (r : Result A BuildRefusal) (f : A → Result B BuildRefusal) (e : BuildRefusal) → linking r f ≡ Err e → (r ≡ Err e) ⊎ ((x : A) × (r ≡ Ok x) × (f x ≡ Err e))
+pub then_err : {A B : Type 0} (r : Result A BuildRefusal) (f : A → Result B BuildRefusal) (e : BuildRefusal) → linking r f ≡ Err e → (r ≡ Err e) ⊎ ((x : A) × (r ≡ Ok x) × (f x ≡ Err e))
 then_err (Ok x) f e h = inr (x, refl, h)
 then_err (Err x) f e h = inl (let p : x ≡ e = cc in ap Err p)
 

@@ -14,12 +14,12 @@ use Rattle.plan.specs.declared.build.Plan.{Plan}
 use Rattle.plan.specs.declared.refusal.BuildRefusal.{BuildRefusal}
 use Rattle.plan.specs.Shapes.{Shape}
 use Rattle.plan.specs.Forms.{shape_in}
-use Rattle.plan.specs.Meaning.{ShapeIsMeant}
+use Rattle.plan.specs.Meaning.{ShapeIsMeant, Broken, root}
 use Rattle.plan.specs.Flat.{ShapeHeld}
-use Rattle.plan.specs.Links.{last_of, link_all, used_of, uses_in, Linked, DistinctIn}
+use Rattle.plan.specs.Links.{last_of, link_all, used_of, uses_in, Linked, DistinctIn, FirstDenied, DeniesFirst}
 use Rattle.plan.specs.FileColumns.{file_column, file_column_of, listed}
 use Rattle.plan.specs.Pool.{short_name, names_held}
-use Rattle.plan.specs.Building.{plan_of, tree_names, PlannedAs, MeantFor}
+use Rattle.plan.specs.Building.{plan_of, tree_names, PlannedAs, MeantFor, rule_is_broken, leaf_denied, SaysWhy}
 use Rattle.plan.proofs.ShapeLaw.{shape_meant}
 
 -- a name that fits is not cut
@@ -73,6 +73,11 @@ shape_refused_means f t r y x w p q h =
     let meant = subst (ShapeIsMeant t) h (shape_meant t w) in
     subst (λ k. MeantFor k f t) (sym p) ((λ s used shaped apart uses. meant.2 s shaped), (λ o broken. meant.1 o broken ∙ sym q))
 
+pub shape_refused_why : (f t : Tree) (r : Result Plan BuildRefusal) (y x : BuildRefusal) → Within t → r ≡ Err y → y ≡ x → shape_in t ≡ Err x → SaysWhy r f t
+shape_refused_why f t r y x w p q h =
+    let meant = subst (ShapeIsMeant t) h (shape_meant t w) in
+    subst (λ k. SaysWhy k f t) (sym p) (rule_is_broken (subst (λ e. Broken e (root t)) (sym q) meant.0))
+
 -- the columns are refused
 pub uses_refused : (k : ℕ) (f t : Tree) (s : Shape) (r : Result Plan BuildRefusal) (y x : BuildRefusal) → r ≡ Err y → y ≡ x → shape_in t ≡ Ok s → Err x ≡ link_all (columns_of f) [] (columns_of t) → PlannedAs r (plan_of k f t)
 uses_refused k f t s r y x p q h l = subst (λ w. PlannedAs w (plan_of k f t)) (sym p) (rw h (rw (sym l)) ∙ ap Err (sym q))
@@ -81,6 +86,11 @@ pub uses_refused_means : (f t : Tree) (s : Shape) (r : Result Plan BuildRefusal)
 uses_refused_means f t s r y x w p h l =
     let meant = subst (ShapeIsMeant t) h (shape_meant t w) in
     subst (λ q. MeantFor q f t) (sym p) ((λ s used shaped apart uses. l used apart uses), (λ o broken. absurd (meant.2 o broken)))
+
+pub uses_refused_why : (f t : Tree) (s : Shape) (r : Result Plan BuildRefusal) (y x : BuildRefusal) → Within t → r ≡ Err y → y ≡ x → shape_in t ≡ Ok s → DeniesFirst (Err x) (columns_of f) (columns_of t) → SaysWhy r f t
+uses_refused_why f t s r y x w p q h l =
+    let meant = subst (ShapeIsMeant t) h (shape_meant t w) in
+    subst (λ k. SaysWhy k f t) (sym p) (leaf_denied s meant.0 (subst (λ e. FirstDenied e (columns_of f) (columns_of t)) (sym q) l))
 
 -- the plan is made
 pub made : (k : ℕ) (f t : Tree) (plan : Plan) → plan.built ≡ true → plan.batch ≡ k → ShapeHeld (Ok plan.shape) (shape_in t) → uses_in (Ok plan.uses) ≡ link_all (columns_of f) [] (columns_of t)

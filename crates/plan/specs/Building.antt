@@ -15,7 +15,7 @@ use Rattle.plan.specs.Shapes.{Shape}
 use Rattle.plan.specs.Forms.{shape_in}
 use Rattle.plan.specs.Meaning.{ShapeOf, Broken, root}
 use Rattle.plan.specs.Flat.{flat, held}
-use Rattle.plan.specs.Links.{link_all, used_of, UseAll, Apart, Distinct}
+use Rattle.plan.specs.Links.{link_all, used_of, UseAll, Apart, Distinct, FirstDenied}
 use Rattle.plan.specs.FileColumns.{file_column_of, listed}
 use Rattle.plan.specs.Pool.{names_held}
 
@@ -104,10 +104,20 @@ NoPlanFor f t = (s : Shape) (used : List UsedColumn) → ShapeOf t s → Apart (
 abbrev pub NamesBroken : BuildRefusal → Tree → Type 0
 NamesBroken e t = (o : BuildRefusal) → Broken o (root t) → o ≡ e
 
+-- why no plan is made of two schemas: the read one breaks a rule of shapes, depth first; or it has a shape, and a read leaf uses no file column
+pub data Why (e : BuildRefusal) (f t : Tree) : Type 0 where
+  rule_is_broken : Broken e (root t) → Why e f t
+  leaf_denied : (s : Shape) → ShapeOf t s → FirstDenied e (columns_of f) (columns_of t) → Why e f t
+
 -- what making a plan of two schemas means
 abbrev pub MeantFor : Result Plan BuildRefusal → Tree → Tree → Type 0
 MeantFor (Ok plan) f t = PlanFor f t plan
 MeantFor (Err e) f t = NoPlanFor f t × NamesBroken e t
+
+-- a refusal of two schemas says why no plan is made of them
+abbrev pub SaysWhy : Result Plan BuildRefusal → Tree → Tree → Type 0
+SaysWhy (Ok plan) f t = Unit {0}
+SaysWhy (Err e) f t = Why e f t
 
 -- the images are those of two schemas within the limits
 pub record Imaged (k : ℕ) (file read : List ℕ) (f t : Tree) : Type 0 where
@@ -123,3 +133,8 @@ pub record Imaged (k : ℕ) (file read : List ℕ) (f t : Tree) : Type 0 where
 abbrev pub Means : Result Unit BuildRefusal → ℕ → List ℕ → List ℕ → Plan → Type 0
 Means (Ok _) k file read new = (f : Tree) × (t : Tree) × Imaged k file read f t × PlanFor f t new
 Means (Err e) k file read new = (f t : Tree) → Imaged k file read f t → NoPlanFor f t × NamesBroken e t
+
+-- where the images are those of two schemas, a refusal says why no plan is made of them
+abbrev pub Explains : Result Unit BuildRefusal → ℕ → List ℕ → List ℕ → Type 0
+Explains (Ok _) k file read = Unit {0}
+Explains (Err e) k file read = (f t : Tree) → Imaged k file read f t → Why e f t

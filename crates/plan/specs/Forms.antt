@@ -42,6 +42,7 @@ abbrev pub collects : Node → Bool
 collects (leaf h l) = false
 collects (group h xs) = is_collection (collection h.annotation)
 
+-- whether a repetition is REPEATED
 abbrev pub is_repeated : Repetition → Bool
 is_repeated Required = false
 is_repeated Optional = false
@@ -124,6 +125,7 @@ abbrev pub rule_broken : Node → Option BuildRefusal
 rule_broken (leaf h l) = None
 rule_broken (group h xs) = group_rule (collection h.annotation) h xs
 
+-- a shape, or the rule that refuses it
 abbrev pub Formed : Type 0
 Formed = Result Shape BuildRefusal
 

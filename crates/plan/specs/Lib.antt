@@ -10,3 +10,4 @@ pub mod Links
 pub mod FileColumns
 pub mod Pool
 pub mod Building
+pub mod LinkSamples

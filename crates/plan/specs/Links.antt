@@ -18,6 +18,7 @@ use Rattle.plan.specs.declared.link.Uses.{Uses}
 use Rattle.plan.specs.declared.refusal.BuildRefusal.{BuildRefusal}
 use Rattle.plan.specs.declared.refusal.BuildRefusal.TheVariants.{PathAgain, PathMissing, RepetitionDiffers, NoConversion}
 use Rattle.plan.specs.Forms.{same_name}
+use Rattle.plan.specs.Refusals.{refusal_number}
 use Rattle.plan.specs.Kinds.{shown_kind}
 
 -- whether two lists are as long as each other and the same part by part
@@ -135,6 +136,29 @@ abbrev pub Apart : List ColumnOf → Type 0
 Apart [] = Unit {0}
 Apart (c ∷ cs) = ((k : ℕ) → HasPath cs (path_names c) k → ⊥) × Apart cs
 
+-- what a read column is refused for, behind earlier ones
+pub data Denies (file earlier : List ColumnOf) (c : ColumnOf) : BuildRefusal → Type 0 where
+  -- 8: an earlier one has its path
+  path_again : {k : ℕ} → HasPath earlier (path_names c) k → Denies file earlier c PathAgain
+  -- 9: no file column has its path
+  path_missing : Highest None file (path_names c) → Denies file earlier c PathMissing
+  -- 10: the highest-numbered file column of its path has other repetitions
+  repetition_differs : {n : ℕ} → Highest (Some n) file (path_names c) → ¬ (repetitions c.path ≡ repetitions (get_or file n c).path) → Denies file earlier c RepetitionDiffers
+  -- 11: the leaf of that column, under its own annotation, has no conversion
+  no_conversion : {n : ℕ} → Highest (Some n) file (path_names c) → shown_kind (get_or file n c).leaf (last_of (annotations (get_or file n c).path)) ≡ None → Denies file earlier c NoConversion
+
+-- columns are refused: the first of them that uses no file column, by the lowest number that it is refused for
+pub record FirstDenied (e : BuildRefusal) (file columns : List ColumnOf) : Type 0 where
+  pub before : List ColumnOf
+  pub used : List UsedColumn
+  pub column : ColumnOf
+  pub behind : List ColumnOf
+  pub split : columns ≡ before ++ column ∷ behind
+  pub apart : Apart before
+  pub uses : UseAll file before used
+  pub denied : Denies file before column e
+  pub lowest : (o : BuildRefusal) → refusal_number o < refusal_number e → ¬ Denies file before column o
+
 -- no column is used twice
 abbrev pub Distinct : List UsedColumn → Type 0
 Distinct used = (i j : ℕ) → i < j → j < length used → slice_index (map (λ u. u.column) used) i ≢ slice_index (map (λ u. u.column) used) j
@@ -227,6 +251,11 @@ uses_in (Err e) = Err e
 abbrev pub Linked : Result Uses BuildRefusal → List ColumnOf → List ColumnOf → Type 0
 Linked (Ok uses) file columns = Apart columns × UseAll file columns (used_of uses)
 Linked (Err e) file columns = (used : List UsedColumn) → Apart columns → UseAll file columns used → ⊥
+
+-- a refusal is that of the first column refused
+abbrev pub DeniesFirst : Result Uses BuildRefusal → List ColumnOf → List ColumnOf → Type 0
+DeniesFirst (Ok uses) file columns = Unit {0}
+DeniesFirst (Err e) file columns = FirstDenied e file columns
 
 -- no column is used twice, where there is no refusal
 abbrev pub DistinctIn : Result Uses BuildRefusal → Type 0

@@ -10,16 +10,19 @@ use Rattle.plan.specs.declared.refusal.BuildRefusal.TheVariants.{EmptyGroup, Bad
 use Rattle.plan.specs.Shapes.{leaf as leaf_shape, optional, group as group_shape, repeated, ◌&◌, as_list, as_map}
 use Rattle.plan.specs.Forms.{Formed, array_name, tuple_ending, shape_in}
 
+-- a heading of these parts
 abbrev pub headed : Listed ℕ → Repetition → Option ConvertedType → Heading
 headed name rep ann = record { name = name; repetition = rep; annotation = ann }
 
--- "x", "y" and "z"
+-- "x"
 abbrev pub x_name : Listed ℕ
 x_name = 0x78 ∷ []
 
+-- "y"
 abbrev pub y_name : Listed ℕ
 y_name = 0x79 ∷ []
 
+-- "z"
 abbrev pub z_name : Listed ℕ
 z_name = 0x7a ∷ []
 

@@ -37,27 +37,30 @@ Found read None x = ⊥
 abbrev pub heading_of : Schema → Header → Heading
 heading_of read h = headed read.image.now h
 
--- an entry is a collection if it is a group annotated so
+-- a body under a header is a collection if it is a group annotated so
 abbrev pub collects_body : Body → Header → Bool
 collects_body (Group n) h = is_collection (collection h.annotation)
 collects_body (Primitive l) h = false
 
+-- an entry is a collection
 abbrev pub collects_entry : NodeEntry → Bool
 collects_entry e = collects_body e.body e.header
 
--- an entry is a group without fields
+-- a body is a group without fields
 abbrev pub empty_body : Body → Bool
 empty_body (Group n) = n == 0
 empty_body (Primitive l) = false
 
+-- an entry is a group without fields
 abbrev pub empty_entry : NodeEntry → Bool
 empty_entry e = empty_body e.body
 
--- an entry is a leaf that is not REPEATED
+-- a body under a header is a leaf that is not REPEATED
 abbrev pub key_body : Body → Header → Bool
 key_body (Group n) h = false
 key_body (Primitive l) h = not (is_repeated h.repetition)
 
+-- an entry is one
 abbrev pub key_entry : NodeEntry → Bool
 key_entry e = key_body e.body e.header
 

@@ -8,7 +8,8 @@ ghost use Rattle.plan.specs.Links.{used_of};
 ghost use Rattle.plan.specs.FileColumns.{listed};
 ghost use Rattle.plan.specs.Pool.{names_held};
 ghost use Rattle.plan.specs.Samples.{ShapeExamples};
-ghost use Rattle.plan.specs.Building.{read_or, plan_of, PlannedAs, MeantFor, Built, Means, size_of};
+ghost use Rattle.plan.specs.LinkSamples.{LinkExamples, BuildExamples};
+ghost use Rattle.plan.specs.Building.{read_or, plan_of, PlannedAs, MeantFor, Built, Means, size_of, SaysWhy, Explains};
 
 use crate::columns::{FileColumn, FileColumns};
 use crate::link::{UsedColumn, Uses, link};
@@ -42,6 +43,7 @@ fn read_or<'a>(file: &'a [u8], read: &'a [u8]) -> &'a [u8]
 fn planned(batch: u64, file: &Schema<'_>, read: &Schema<'_>) -> Result<Plan, BuildRefusal>
     ensures plans { (f t : Tree) → Within t → Holds file.now f → Holds read.now t → PlannedAs result (plan_of batch f t) }
     ensures means { (f t : Tree) → Within t → Holds file.now f → Holds read.now t → MeantFor result f t }
+    ensures says_why { (f t : Tree) → Within t → Holds file.now f → Holds read.now t → SaysWhy result f t }
 {
     let shape = ShapeTable::of(read)?;
     let uses = link(read, file)?;
@@ -83,7 +85,10 @@ impl Plan {
     ) -> Result<(), BuildRefusal>
         ensures builds { Built result batch_size file_image.now read_image.now self.old self.new }
         ensures builds_exactly_where_it_can { Means result batch_size file_image.now read_image.now self.new }
+        ensures says_why { Explains result batch_size file_image.now read_image.now }
         ensures worked_examples { ShapeExamples }
+        ensures worked_links { LinkExamples }
+        ensures worked_builds { BuildExamples }
     {
         if batch_size == 0 || batch_size > MAX_BATCH {
             return Err(BuildRefusal::BatchSize);

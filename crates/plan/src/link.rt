@@ -3,7 +3,7 @@ ghost use Rattle.std.specs.Prelude.{◌≡◌, List, [], map, length, Ok};
 ghost use Rattle.schema.specs.Columns.{ColumnOf, repetition_of};
 ghost use Rattle.schema.specs.Answering.{seen_columns};
 ghost use Rattle.plan.specs.Forms.{same_name};
-ghost use Rattle.plan.specs.Links.{same_parts, same_path, same_repetition, names, highest, Highest, last_of, link_one, link_all, is_used, parts_of, headings_of, used_of, Pushed, Kept, LinksLeaf, LinksNode, LinksFields, ForHeld, uses_in, Linked, DistinctIn};
+ghost use Rattle.plan.specs.Links.{same_parts, same_path, same_repetition, names, highest, Highest, last_of, link_one, link_all, is_used, parts_of, headings_of, used_of, Pushed, Kept, LinksLeaf, LinksNode, LinksFields, ForHeld, uses_in, Linked, DeniesFirst, DistinctIn};
 
 use crate::kind::{FieldKind, shown_kind};
 use crate::path::Path;
@@ -245,6 +245,7 @@ impl Uses {
 pub(crate) fn link(read: &Schema<'_>, file: &Schema<'_>) -> Result<Uses, BuildRefusal>
     ensures links { ForHeld read.now file.now (λ f cs. uses_in result ≡ link_all f [] cs) }
     ensures links_exactly_what_it_can { ForHeld read.now file.now (λ f cs. Linked result f cs) }
+    ensures denies_first { ForHeld read.now file.now (λ f cs. DeniesFirst result f cs) }
     ensures uses_distinct_columns { ForHeld read.now file.now (λ f cs. DistinctIn result) }
 {
     let nodes = read.nodes();

@@ -5,7 +5,7 @@ use Rattle.schema.specs.Schemas.{Tree}
 use Rattle.schema.specs.Image.{Within}
 use Rattle.schema.specs.Columns.{columns_of}
 use Rattle.schema.specs.Answering.{Holds}
-use Rattle.plan.proofs.LinkMeaning.{means, distinct}
+use Rattle.plan.proofs.LinkMeaning.{means, denies_first, distinct}
 use Rattle.plan.proofs.LinkTop.{some_node, root_body, top_linked, top_refused}
 use Rattle.plan.proofs.link.link.Goals as goal
 
@@ -15,6 +15,7 @@ returns-then-is_empty c =
     record {
       links = λ t u within holds held. absurd (never t holds);
       links_exactly_what_it_can = λ t u within holds held. absurd (never t holds);
+      denies_first = λ t u within holds held. absurd (never t holds);
       uses_distinct_columns = λ t u within holds held. tt;
     }
 
@@ -24,6 +25,7 @@ returns-in_default c =
     record {
       links = λ t u within holds held. absurd (never t holds);
       links_exactly_what_it_can = λ t u within holds held. absurd (never t holds);
+      denies_first = λ t u within holds held. absurd (never t holds);
       uses_distinct_columns = λ t u within holds held. tt;
     }
 
@@ -36,6 +38,7 @@ returns-in_err-visit_fields c =
     record {
       links = links;
       links_exactly_what_it_can = λ t u within holds held. means (columns_of u) (columns_of t) c.from_residual.result (links t u within holds held);
+      denies_first = λ t u within holds held. denies_first (columns_of u) (columns_of t) c.from_residual.result (links t u within holds held);
       uses_distinct_columns = λ t u within holds held. distinct (columns_of u) (columns_of t) c.from_residual.result (links t u within holds held);
     }
 
@@ -47,5 +50,6 @@ returns c =
     record {
       links = links;
       links_exactly_what_it_can = λ t u within holds held. means (columns_of u) (columns_of t) (Ok c.visit_fields.new.self) (links t u within holds held);
+      denies_first = λ t u within holds held. tt;
       uses_distinct_columns = λ t u within holds held. distinct (columns_of u) (columns_of t) (Ok c.visit_fields.new.self) (links t u within holds held);
     }

@@ -25,7 +25,7 @@ returns-in_err-self c =
     let t = read_as _ c.read_or.result.now c.read-2.new.self c.read_or.ensures c.in_default-read.ensures.accepts_exactly_images in
     plan_refused c.args.batch_size c.args.file_image.now c.args.read_image.now c.args.self.now c.if-batch_size-eq0.false c.if-batch_size-gt-MAX_BATCH.false c.read.new.self f.0 f.1 c.read-2.new.self t.0 t.1
     c.from_residual.result p.0 c.in_err-self.field-0.0 p.1 p.2 (c.in_err-self.ensures.plans f.0 t.0 t.1.within f.1.holds t.1.holds)
-    (c.in_err-self.ensures.means f.0 t.0 t.1.within f.1.holds t.1.holds)
+    (c.in_err-self.ensures.means f.0 t.0 t.1.within f.1.holds t.1.holds) (c.in_err-self.ensures.says_why f.0 t.0 t.1.within f.1.holds t.1.holds)
 
 pub returns : goal.returns
 returns c =
