@@ -30,33 +30,33 @@ module _ (xs : List ColumnShape) (n : ℕ) where
     abbrev read : Entry
     read = get_or es i d
 
-    abbrev Front : Option SourceFaultKind → List Entry
-    Front o = cond (elim o [ None ↦ true | Some f ↦ false ]) (read ∷ good_front xs n (drop (i + 1) es)) []
+    abbrev front_of : Option SourceFaultKind → List Entry
+    front_of o = cond (elim o [ None ↦ true | Some f ↦ false ]) (read ∷ good_front xs n (drop (i + 1) es)) []
 
-    abbrev Ends : Option SourceFaultKind → Ending
-    Ends o = elim o [ None ↦ ending_from xs n (i + 1) (drop (i + 1) es) | Some f ↦ failing (fault_at f i) ]
+    abbrev ends_of : Option SourceFaultKind → Ending
+    ends_of o = elim o [ None ↦ ending_from xs n (i + 1) (drop (i + 1) es) | Some f ↦ failing (fault_at f i) ]
 
-    front_open : good_front xs n (drop i es) ≡ Front (entry_fault xs n read)
+    front_open : good_front xs n (drop i es) ≡ front_of (entry_fault xs n read)
     front_open = at_drop_more (good_front xs n) es i d within
 
-    ending_open : ending_from xs n i (drop i es) ≡ Ends (entry_fault xs n read)
+    ending_open : ending_from xs n i (drop i es) ≡ ends_of (entry_fault xs n read)
     ending_open = at_drop_more (ending_from xs n i) es i d within
 
     pub checking_more : entry_fault xs n read ≡ None → Checking es (i + 1)
     checking_more good = record {
       front =
           inv.front
-          ∙ ap (λ l. take i es ++ l) (front_open ∙ ap Front good)
+          ∙ ap (λ l. take i es ++ l) (front_open ∙ ap front_of good)
           ∙ sym (append_assoc (take i es) (read ∷ []) (good_front xs n (drop (i + 1) es)))
           ∙ ap (λ l. l ++ good_front xs n (drop (i + 1) es)) (sym (take_more es i d within));
-      ending = inv.ending ∙ ending_open ∙ ap Ends good;
+      ending = inv.ending ∙ ending_open ∙ ap ends_of good;
     }
 
     pub checked_bad : (f : SourceFaultKind) → entry_fault xs n read ≡ Some f → Checked xs n es i (Some (fault_at f i))
     checked_bad f bad = record {
       within = omega arith;
-      front = sym (inv.front ∙ ap (λ l. take i es ++ l) (front_open ∙ ap Front bad) ∙ append-nil (take i es));
-      ending = sym (inv.ending ∙ ending_open ∙ ap Ends bad);
+      front = sym (inv.front ∙ ap (λ l. take i es ++ l) (front_open ∙ ap front_of bad) ∙ append-nil (take i es));
+      ending = sym (inv.ending ∙ ending_open ∙ ap ends_of bad);
     }
 
   pub checked_all : (es : List Entry) (i : ℕ) → length es ≤ i → Checking es i → Checked xs n es (length es) None

@@ -61,38 +61,38 @@ module _ {V : Type 0} (val : V → Value) (kind : ValueKind) (xs : List ColumnSh
   abbrev m : Meaning
   m = entries_left xs es cs fault pool
 
-  abbrev T : ℕ → List Triplet
-  T i = triplets_of i (drop (get_or cs i 0) es)
+  abbrev to_come : ℕ → List Triplet
+  to_come i = triplets_of i (drop (get_or cs i 0) es)
 
-  abbrev Asks : Bool
-  Asks = askable o kind' k (length b.repetitions) (length b.definitions) (length b.values)
+  abbrev asks : Bool
+  asks = askable o kind' k (length b.repetitions) (length b.definitions) (length b.values)
 
-  asked_is : well_asked m kind c k b ≡ Asks
+  asked_is : well_asked m kind c k b ≡ asks
   asked_is =
-      ap (λ s. askable s kind k (length b.repetitions) (length b.definitions) (length b.values)) (told_by xs T (ending_by fault) pool c ∙ sym told_is)
+      ap (λ s. askable s kind k (length b.repetitions) (length b.definitions) (length b.values)) (told_by xs to_come (ending_by fault) pool c ∙ sym told_is)
       ∙ ap (λ t. askable o t k (length b.repetitions) (length b.definitions) (length b.values)) (sym kind-is)
 
-  pub misused : Asks ≡ false → Declined kind m m c k b b misuse
-  misused wrong = record { same = refl; untouched = refl; misused = λ h. refl; failed = λ h. absurd (both_ways Asks wrong (sym asked_is ∙ h)) }
+  pub misused : asks ≡ false → Declined kind m m c k b b misuse
+  misused wrong = record { same = refl; untouched = refl; misused = λ h. refl; failed = λ h. absurd (both_ways asks wrong (sym asked_is ∙ h)) }
 
   -- what the walk asks for: room, and values of the kind
-  pub walk_given : Asks ≡ true → all_good xs (length pool) es ≡ true → ((k ≤ length b.repetitions) × (k ≤ length b.definitions) × (k ≤ length b.values)) × ColumnOfKind kind c es
+  pub walk_given : asks ≡ true → all_good xs (length pool) es ≡ true → ((k ≤ length b.repetitions) × (k ≤ length b.definitions) × (k ≤ length b.values)) × ColumnOfKind kind c es
   walk_given right good =
       let a = asked_parts o kind' k (length b.repetitions) (length b.definitions) (length b.values) right in
       let x = shape_known xs c a.shape (sym told_is ∙ a.is) in
       (a.room, column_kind xs (length pool) kind c es good (ap (λ y. same_kind y.kind kind) x.1 ∙ ap (same_kind a.shape.kind) (sym kind-is) ∙ a.same))
 
-  module _ (right : Asks ≡ true) (large : c < length cs) where
+  module _ (right : asks ≡ true) (large : c < length cs) where
     asked : Asked o kind' k (length b.repetitions) (length b.definitions) (length b.values)
     asked = asked_parts o kind' k (length b.repetitions) (length b.definitions) (length b.values) right
 
     known : c < length xs
     known = (shape_known xs c asked.shape (sym told_is ∙ asked.is)).0
 
-    column : column_of m c ≡ column_by xs T (ending_by fault) c
-    column = column_by_lem xs T (ending_by fault) pool c known
+    column : column_of m c ≡ column_by xs to_come (ending_by fault) c
+    column = column_by_lem xs to_come (ending_by fault) pool c known
 
-    coming : coming_of m c ≡ T c
+    coming : coming_of m c ≡ to_come c
     coming = ap (λ (x : Column). x.coming) column
 
     ending : ending_of m c ≡ ending_by fault
@@ -102,7 +102,7 @@ module _ {V : Type 0} (val : V → Value) (kind : ValueKind) (xs : List ColumnSh
     here : (p : ℕ) → triplets_of c (drop (get_or (set cs c p) c 0) es) ≡ triplets_from c es p
     here p = ap (λ i. triplets_of c (drop i es)) (get_or-set_same cs c p 0 large)
 
-    there : (p i : ℕ) → i ≢ c → triplets_of i (drop (get_or (set cs c p) i 0) es) ≡ T i
+    there : (p i : ℕ) → i ≢ c → triplets_of i (drop (get_or (set cs c p) i 0) es) ≡ to_come i
     there p i ne = ap (λ j. triplets_of i (drop j es)) (get_or-set_other cs c i p 0 ne)
 
     module _ (b' : Memory V) (p j n : ℕ) (g : Gathered val es c (get_or cs c 0) k b b' p j n) where
@@ -110,26 +110,26 @@ module _ {V : Type 0} (val : V → Value) (kind : ValueKind) (xs : List ColumnSh
       m' = entries_left xs es (set cs c p) fault pool
 
       -- where none was gathered, none was left
-      none : j ≡ 0 → T c ≡ []
-      none e = sym (ap (λ i. drop i (T c)) e) ∙ sym g.gathering.left ∙ g.enough (omega (arith, asked.some))
+      none : j ≡ 0 → to_come c ≡ []
+      none e = sym (ap (λ i. drop i (to_come c)) e) ∙ sym g.gathering.left ∙ g.enough (omega (arith, asked.some))
 
       pub failed : (f : SourceFault) → j ≡ 0 → fault ≡ Some f → Declined kind m m' c k b b' f
       failed f e is =
-          let stands : Stands val [] b b' n = subst (λ i. Stands val (take i (T c)) b b' n) e g.gathering.stands in
+          let stands : Stands val [] b b' n = subst (λ i. Stands val (take i (to_come c)) b b' n) e g.gathering.stands in
           let zero : n ≡ 0 = stands.count in
           let values : b'.values ≡ b.values = subst (λ i. drop i b'.values ≡ drop i b.values) zero stands.rest in
           record {
             same =
-                same_by xs T (ending_by fault) pool (λ i. triplets_of i (drop (get_or (set cs c p) i 0) es))
+                same_by xs to_come (ending_by fault) pool (λ i. triplets_of i (drop (get_or (set cs c p) i 0) es))
                 (λ i h. ⊎_elim
-                (λ (q : i ≡ c). subst (λ z. triplets_of z (drop (get_or (set cs c p) z 0) es) ≡ T z) (sym q) (here p ∙ g.gathering.left ∙ ap (λ z. drop z (T c)) e))
+                (λ (q : i ≡ c). subst (λ z. triplets_of z (drop (get_or (set cs c p) z 0) es) ≡ to_come z) (sym q) (here p ∙ g.gathering.left ∙ ap (λ z. drop z (to_come c)) e))
                 (λ (q : i ≡ c → ⊥). there p i q)
                 (cases_eq i c));
             untouched =
                 ap (λ l. slices l b'.definitions b'.values) stands.repetitions
                 ∙ ap (λ l. slices b.repetitions l b'.values) stands.definitions
                 ∙ ap (slices b.repetitions b.definitions) values;
-            misused = λ h. absurd (both_ways Asks (sym asked_is ∙ h) right);
+            misused = λ h. absurd (both_ways asks (sym asked_is ∙ h) right);
             failed = λ h. (coming ∙ none e, ending ∙ ap ending_by is);
           }
 
@@ -144,11 +144,11 @@ module _ {V : Type 0} (val : V → Value) (kind : ValueKind) (xs : List ColumnSh
                 (λ (q : fault ≡ None). ending ∙ ap ending_by q)
                 (λ (q : j ≡ 0 → ⊥). absurd (q (omega (arith, g.gathering.there, ap length (sym coming ∙ h)))))
                 ends;
-            next = after_by xs T (ending_by fault) pool (λ i. triplets_of i (drop (get_or (set cs c p) i 0) es)) c j known (here p ∙ g.gathering.left) (there p);
+            next = after_by xs to_come (ending_by fault) pool (λ i. triplets_of i (drop (get_or (set cs c p) i 0) es)) c j known (here p ∙ g.gathering.left) (there p);
             stands = subst H (sym coming) g.gathering.stands;
           }
 
       pub chosen : 0 < length (coming_of m c) → (1 ≤ j) × (j ≤ k)
       chosen h =
-          let some : 1 ≤ j = ⊎_elim (λ (q : 0 < j). omega arith) (λ (q : j ≤ 0). absurd (let z : length (T c) ≡ 0 = ap length (none (omega arith)) in omega (arith, ap length coming))) (cases_lt 0 j) in
+          let some : 1 ≤ j = ⊎_elim (λ (q : 0 < j). omega arith) (λ (q : j ≤ 0). absurd (let z : length (to_come c) ≡ 0 = ap length (none (omega arith)) in omega (arith, ap length coming))) (cases_lt 0 j) in
           (some, g.gathering.few)

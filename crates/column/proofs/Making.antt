@@ -24,15 +24,15 @@ at_front (suc n) zero = refl
 at_front (suc n) (suc c) = at_front n c
 
 module _ (xs : List ColumnShape) (es : List Entry) (pool : List ℕ) where
-  abbrev Mean : Bool → Meaning
-  Mean b = cond b (meaning_by xs (λ c. triplets_of c (good_front xs (length pool) es)) (ending_from xs (length pool) 0 es) pool) (meaning_by xs (λ c. []) (failing (fault_at TooLarge 0)) [])
+  abbrev mean_of : Bool → Meaning
+  mean_of b = cond b (meaning_by xs (λ c. triplets_of c (good_front xs (length pool) es)) (ending_from xs (length pool) 0 es) pool) (meaning_by xs (λ c. []) (failing (fault_at TooLarge 0)) [])
 
   pub made_large : (cs : List ℕ) → (2147483647 < length es) ⊎ (2147483647 < length pool) → entries_left xs [] cs (Some (fault_at TooLarge 0)) [] ≡ entries_mean xs es pool
   made_large cs large =
       let over : (leb (length es) 2147483647 && leb (length pool) 2147483647) ≡ false
       = ⊎_elim (λ (h : 2147483647 < length es). and_left _ (leb (length pool) 2147483647) (lt-leb (length es) 2147483647 h)) (λ (h : 2147483647 < length pool). and_right (leb (length es) 2147483647) _ (lt-leb (length pool) 2147483647 h)) large in
       same_by xs (λ c. []) (failing (fault_at TooLarge 0)) [] (λ c. triplets_of c (drop (get_or cs c 0) [])) (λ c h. ap (triplets_of c) (drop_all (get_or cs c 0) [] (omega arith)))
-      ∙ sym (ap Mean over)
+      ∙ sym (ap mean_of over)
 
   module _ (good : ℕ) (fault : Option SourceFault) (checked : Checked xs (length pool) es good fault) where
     front_is : take (good - 0) es ≡ good_front xs (length pool) es
@@ -49,4 +49,4 @@ module _ (xs : List ColumnShape) (es : List Entry) (pool : List ℕ) where
         same_by xs (λ c. triplets_of c (good_front xs (length pool) es)) (ending_by fault) pool (λ c. triplets_of c (drop (get_or cs c 0) (take (good - 0) es)))
         (λ c l. ap (λ p. triplets_of c (drop p (take (good - 0) es))) (front c) ∙ ap (triplets_of c) front_is)
         ∙ ap (λ e. meaning_by xs (λ c. triplets_of c (good_front xs (length pool) es)) e pool) checked.ending
-        ∙ sym (ap Mean (and_from _ _ (le-leb (length es) 2147483647 h) (le-leb (length pool) 2147483647 k)))
+        ∙ sym (ap mean_of (and_from _ _ (le-leb (length es) 2147483647 h) (le-leb (length pool) 2147483647 k)))

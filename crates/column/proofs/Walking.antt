@@ -13,19 +13,19 @@ module _ (c : ℕ) (es : List Entry) (p : ℕ) (within : p < length es) where
   abbrev read : Entry
   read = get_or es p no_entry
 
-  abbrev Left : Bool → List Triplet
-  Left b = map triplet_of (cond b (read ∷ filter (of_column c) (drop (p + 1) es)) (filter (of_column c) (drop (p + 1) es)))
+  abbrev left_of : Bool → List Triplet
+  left_of b = map triplet_of (cond b (read ∷ filter (of_column c) (drop (p + 1) es)) (filter (of_column c) (drop (p + 1) es)))
 
-  opened : triplets_from c es p ≡ Left (of_column c read)
+  opened : triplets_from c es p ≡ left_of (of_column c read)
   opened = at_drop_more (triplets_of c) es p no_entry within
 
   -- an entry of the column
   pub its_own : read.column ≡ c → triplets_from c es p ≡ triplet_of read ∷ triplets_from c es (p + 1)
-  its_own h = opened ∙ ap Left (eq-eqb read.column c h)
+  its_own h = opened ∙ ap left_of (eq-eqb read.column c h)
 
   -- an entry of another
   pub others : (read.column ≡ c → ⊥) → triplets_from c es p ≡ triplets_from c es (p + 1)
-  others h = opened ∙ ap Left (ne_eqb read.column c h)
+  others h = opened ∙ ap left_of (ne_eqb read.column c h)
 
 -- no entry is left
 pub none_left : (c : ℕ) (es : List Entry) (p : ℕ) → length es ≤ p → triplets_from c es p ≡ []
@@ -43,13 +43,13 @@ values_push [] t = append-nil (value_in t.value)
 values_push (x ∷ ts) t = ap (λ l. value_in x.value ++ l) (values_push ts t) ∙ sym (append_assoc (value_in x.value) (values_of ts) (value_in t.value))
 
 -- the next of what is left
-pub take_next : {A : Type 0} (l : ℕ) (T : List A) (t : A) (rest : List A) → drop l T ≡ t ∷ rest → (l < length T) × (take (l + 1) T ≡ take l T ++ t ∷ []) × (drop (l + 1) T ≡ rest)
-take_next l T t rest e =
-    let within : l < length T = omega (arith, length-drop l T, ap length e) in
-    let opened : get_or T l t ∷ drop (l + 1) T ≡ t ∷ rest = sym (drop_more T l t within) ∙ e in
-    let first : get_or T l t ≡ t = cc in
-    let others : drop (l + 1) T ≡ rest = cc in
-    (within, take_more T l t within ∙ ap (λ x. take l T ++ x ∷ []) first, others)
+pub take_next : {A : Type 0} (l : ℕ) (to_come : List A) (t : A) (rest : List A) → drop l to_come ≡ t ∷ rest → (l < length to_come) × (take (l + 1) to_come ≡ take l to_come ++ t ∷ []) × (drop (l + 1) to_come ≡ rest)
+take_next l to_come t rest e =
+    let within : l < length to_come = omega (arith, length-drop l to_come, ap length e) in
+    let opened : get_or to_come l t ∷ drop (l + 1) to_come ≡ t ∷ rest = sym (drop_more to_come l t within) ∙ e in
+    let first : get_or to_come l t ≡ t = cc in
+    let others : drop (l + 1) to_come ≡ rest = cc in
+    (within, take_more to_come l t within ∙ ap (λ x. take l to_come ++ x ∷ []) first, others)
 
 -- one level more at the front of the memory
 pub level_more : (f : Triplet → ℕ) (got : List Triplet) (t : Triplet) (q q₁ : List ℕ) (l : ℕ) → length got ≡ l → l < length q → q₁ ≡ map f got ++ drop (length got) q → set q₁ l (f t) ≡ map f (got ++ t ∷ []) ++ drop (length (got ++ t ∷ [])) q
@@ -118,28 +118,28 @@ module _ {V : Type 0} (val : V → Value) (es : List Entry) (c from k : ℕ) (b 
   }
 
   module _ (g : Gathering val es c from k b b₁ p levels present) where
-    abbrev T : List Triplet
-    T = triplets_from c es from
+    abbrev to_come : List Triplet
+    to_come = triplets_from c es from
 
-    size : length (take levels T) ≡ levels
-    size = length-take-le levels T g.there
+    size : length (take levels to_come) ≡ levels
+    size = length-take-le levels to_come g.there
 
     -- there are no more values than levels
     pub gather_few : present ≤ levels
-    gather_few = omega (arith, g.stands.count, values_few (take levels T), size)
+    gather_few = omega (arith, g.stands.count, values_few (take levels to_come), size)
 
     -- one turn
     pub gather_more : (i : ℕ) (vs₂ : List V) (present' : ℕ) → levels < k → k ≤ length b.repetitions → k ≤ length b.definitions → present < length b₁.values → Reached es c p i → Written val (get_or es i no_entry).value b₁.values vs₂ present present'
         → Gathering val es c from k b (slices (set b₁.repetitions levels (get_or es i no_entry).repetition) (set b₁.definitions levels (get_or es i no_entry).definition) vs₂) (i + 1) (levels + 1) present'
     gather_more i vs₂ present' room rs ds vs r written =
         let t = triplet_of (get_or es i no_entry) in
-        let next = take_next levels T t (triplets_from c es (i + 1)) (sym g.left ∙ r.next) in
+        let next = take_next levels to_come t (triplets_from c es (i + 1)) (sym g.left ∙ r.next) in
         let H : List Triplet → Type 0 = λ got. Stands val got b (slices (set b₁.repetitions levels t.repetition) (set b₁.definitions levels t.definition) vs₂) present' in
         record {
           few = omega arith;
           there = omega (arith, next.0);
           left = sym next.2;
-          stands = subst H (sym next.1) (stands_more val (take levels T) t b b₁ vs₂ levels present present' size (omega arith) (omega arith) vs g.stands written);
+          stands = subst H (sym next.1) (stands_more val (take levels to_come) t b b₁ vs₂ levels present present' size (omega arith) (omega arith) vs g.stands written);
         }
 
     -- all there are
