@@ -17,8 +17,8 @@ use Rattle.schema.specs.Reading.{name_in, fell, fields_body, node_in, whole, sch
 use Rattle.schema.specs.Places.{named, headed}
 use Rattle.schema.specs.Columns.{columns_all, parts}
 use Rattle.schema.specs.Tables.{rows, row, trail, column_read, rows_held, columns_held, place, Added}
-use Rattle.schema.specs.Examples.{SchemaExamples}
-use Rattle.schema.proofs.Samples.{examples}
+use Rattle.schema.specs.Examples.{SchemaExamples, LevelExamples}
+use Rattle.schema.proofs.Samples.{examples, level_examples}
 use Rattle.schema.proofs.Answered.{accepted, refused as refuses}
 use Rattle.schema.specs.Answering.{Read, Accepted, root_heading}
 
@@ -84,5 +84,5 @@ accepts (Err e) bytes old new byte h = refuses bytes e h.0
 
 -- what an answer says by value, it says by meaning too
 pub answered : (r : Result Unit ImageRefusal) (bytes : List ℕ) (old new : Schema) → ((i : ℕ) → get_or bytes i 0 < 256) → Read r bytes old new
-    → record { reads : Read r bytes old new; accepts_exactly_images : Accepted r bytes new; worked_examples : SchemaExamples }
-answered r bytes old new byte h = record { reads = h; accepts_exactly_images = accepts r bytes old new (All-from_get_or (λ b. b < 256) bytes 0 (λ i _. byte i)) h; worked_examples = examples }
+    → record { reads : Read r bytes old new; accepts_exactly_images : Accepted r bytes new; worked_examples : SchemaExamples; worked_levels : LevelExamples }
+answered r bytes old new byte h = record { reads = h; accepts_exactly_images = accepts r bytes old new (All-from_get_or (λ b. b < 256) bytes 0 (λ i _. byte i)) h; worked_examples = examples; worked_levels = level_examples }

@@ -68,11 +68,14 @@ pub record SchemaExamples : Type 0 where
   pub byte_over : schema_in (small_image ++ 0x00 ∷ []) ≡ Err Malformed
   -- a root that has one field, and ends
   pub ends_inside : schema_in (0x01 ∷ 0x74 ∷ 0x01 ∷ []) ≡ Err Malformed
-  -- a node on the 17th level, and none: the limit is met at its first byte
-  pub too_deep : schema_in (0x01 ∷ 0x74 ∷ 0x01 ∷ nested 17) ≡ Err Limit
-  pub ends_too_deep : schema_in (0x01 ∷ 0x74 ∷ 0x01 ∷ nested 16) ≡ Err Malformed
   -- the leaf below the list has three nodes that are not REQUIRED on its path, one of them REPEATED
   pub list_definitions : map (λ c. c.definition) (columns_of list_tree) ≡ 0 ∷ 3 ∷ []
   pub list_repetitions : map (λ c. c.repetition) (columns_of list_tree) ≡ 0 ∷ 1 ∷ []
   -- its path goes from right below the root down to it
   pub list_path : map (λ c. map (λ h. h.name) c.path) (columns_of list_tree) ≡ ((0x61 ∷ []) ∷ []) ∷ ((0x73 ∷ []) ∷ (0x6c ∷ []) ∷ (0x65 ∷ []) ∷ []) ∷ []
+
+-- Worked examples of the limit of levels.
+pub record LevelExamples : Type 0 where
+  -- a node on the 17th level, and none: the limit is met at its first byte
+  pub too_deep : schema_in (0x01 ∷ 0x74 ∷ 0x01 ∷ nested 17) ≡ Err Limit
+  pub ends_too_deep : schema_in (0x01 ∷ 0x74 ∷ 0x01 ∷ nested 16) ≡ Err Malformed

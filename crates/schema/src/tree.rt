@@ -1,7 +1,7 @@
 // A schema, as it is read from an image.
 ghost use Rattle.std.specs.Prelude.{◌≡◌, ℕ, ◌+◌, ◌<◌, ◌≤◌, List, [], length};
 ghost use Rattle.schema.specs.Places.{named};
-ghost use Rattle.schema.specs.Examples.{SchemaExamples};
+ghost use Rattle.schema.specs.Examples.{SchemaExamples, LevelExamples};
 ghost use Rattle.schema.specs.Answering.{Read, Accepted, entries_of, columns_in, seen_rows, seen_columns};
 
 use crate::column::{Column, ColumnPath};
@@ -37,6 +37,7 @@ impl<'a> Schema<'a> {
         ensures reads { Read result image.now self.old self.new }
         ensures accepts_exactly_images { Accepted result image.now self.new }
         ensures worked_examples { SchemaExamples }
+        ensures worked_levels { LevelExamples }
     {
         let (name, at) = name(image, 0)?;
         let root = Header {
