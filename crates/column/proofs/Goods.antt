@@ -1,6 +1,6 @@
 -- What holds of good entries. Assumes nothing.
 use Rattle.std.proofs.Common.{◌≡◌, ℕ, ◌<◌, ◌≤◌, Bool, true, false, cond, not, ◌&&◌, eqb, List, [], ◌∷◌, map, length, get_or, drop, Some, None, filter, Option, sym, refl, ap, ◌∙◌, subst, ⊎_elim, arith}
-use Rattle.std.specs.List.{AllByRecursion as All}
+use Rattle.std.specs.List.{AllByRecursion}
 use Rattle.std.proofs.ByRecursion.{All-weaker, All-drop}
 use Rattle.std.proofs.lemmas.List.Filters.{length-filter_both}
 use Rattle.std.proofs.lemmas.List.{length-map, length-drop}
@@ -56,16 +56,16 @@ module _ (xs : List ColumnShape) (n : ℕ) where
       (λ (k : length xs ≤ e.column). absurd (both_ways false refl (sym (ap at (le-ltb e.column (length xs) k)) ∙ h)))
       (cases_lt e.column (length xs))
 
-  pub all_good_lem : (es : List Entry) → all_good xs n es ≡ true → All Good es
+  pub all_good_lem : (es : List Entry) → all_good xs n es ≡ true → AllByRecursion Good es
   all_good_lem [] h = tt
   all_good_lem (e ∷ es) h = let p = and_parts (is_good xs n e) (all_good xs n es) h in (good_parts e p.0, all_good_lem es p.1)
 
   -- what holds of the good entries of a column holds of its triplets
-  pub all_triplets : (P : Triplet → Type 0) (c : ℕ) → ((e : Entry) → Good e → e.column ≡ c → P (triplet_of e)) → (es : List Entry) → All Good es → All P (triplets_of c es)
+  pub all_triplets : (P : Triplet → Type 0) (c : ℕ) → ((e : Entry) → Good e → e.column ≡ c → P (triplet_of e)) → (es : List Entry) → AllByRecursion Good es → AllByRecursion P (triplets_of c es)
   all_triplets P c each [] goods = tt
   all_triplets P c each (e ∷ es) goods =
       let rest = all_triplets P c each es goods.1 in
-      let H : Bool → Type 0 = λ b. All P (map triplet_of (cond b (e ∷ filter (of_column c) es) (filter (of_column c) es))) in
+      let H : Bool → Type 0 = λ b. AllByRecursion P (map triplet_of (cond b (e ∷ filter (of_column c) es) (filter (of_column c) es))) in
       ⊎_elim
       (λ (q : of_column c e ≡ true). subst H (sym q) (each e goods.0 (eqb-true e.column c q), rest))
       (λ (q : of_column c e ≡ false). subst H (sym q) rest)

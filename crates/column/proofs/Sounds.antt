@@ -1,6 +1,6 @@
 -- What holds of every source, column by column. Assumes nothing.
 use Rattle.std.proofs.Common.{◌≡◌, ℕ, zero, suc, ◌<◌, ◌≤◌, Bool, true, ◌&&◌, ltb, List, [], ◌∷◌, length, get_or, refl, ap, ◌∙◌, ⊎_elim, arith}
-use Rattle.std.specs.List.{AllByRecursion as All}
+use Rattle.std.specs.List.{AllByRecursion}
 use Rattle.std.proofs.ByRecursion.{All-weaker}
 use Rattle.std.proofs.lemmas.List.{get_or_past}
 use Rattle.std.proofs.lemmas.Bool.{ltb-true, cases_lt, and_parts, and_from}
@@ -10,11 +10,11 @@ use Rattle.column.specs.Columns.{column_by, meaning_by}
 use Rattle.column.proofs.Numbered.{column_by_lem, length_by}
 
 -- a test that every element passes
-pub every_all : {A : Type 0} (test : A → Bool) (xs : List A) → All (λ x. test x ≡ true) xs → every test xs ≡ true
+pub every_all : {A : Type 0} (test : A → Bool) (xs : List A) → AllByRecursion (λ x. test x ≡ true) xs → every test xs ≡ true
 every_all test [] h = refl
 every_all test (x ∷ xs) h = and_from (test x) (every test xs) h.0 (every_all test xs h.1)
 
-pub all_every : {A : Type 0} (test : A → Bool) (xs : List A) → every test xs ≡ true → All (λ x. test x ≡ true) xs
+pub all_every : {A : Type 0} (test : A → Bool) (xs : List A) → every test xs ≡ true → AllByRecursion (λ x. test x ≡ true) xs
 all_every test [] h = tt
 all_every test (x ∷ xs) h = let p = and_parts (test x) (every test xs) h in (p.0, all_every test xs p.1)
 
@@ -35,8 +35,8 @@ sound_by xs T e pool each =
 
 -- what is known of a sound source, of every column number
 pub record Parts (m : Meaning) (c : ℕ) : Type 0 where
-  pub carried : All (λ t. carries (column_of m c).shape t ≡ true) (coming_of m c)
-  pub held : All (λ t. lies (length m.pool) t.value ≡ true) (coming_of m c)
+  pub carried : AllByRecursion (λ t. carries (column_of m c).shape t ≡ true) (coming_of m c)
+  pub held : AllByRecursion (λ t. lies (length m.pool) t.value ≡ true) (coming_of m c)
   pub few : length (coming_of m c) < 4294967296
 
 column-parts : (m : Meaning) (c : ℕ) → sound_column (length m.pool) (column_of m c) ≡ true → Parts m c

@@ -1,6 +1,6 @@
 -- How a delivery walks through a list of entries. Assumes nothing.
 use Rattle.std.specs.Prelude.{◌≡◌, ℕ, ◌+◌, ◌<◌, ◌≤◌, true, List, [], ◌∷◌, length, get_or, take, drop, Some, None, Option, slice_index_or, slice_set}
-use Rattle.std.specs.List.{AllByRecursion as All}
+use Rattle.std.specs.List.{AllByRecursion}
 use Rattle.plan.specs.declared.kind.ValueKind.{ValueKind}
 use Rattle.value.specs.declared.types.Value.{Value}
 use Rattle.column.specs.declared.entry.Entry.{Entry}
@@ -34,7 +34,7 @@ OfKind kind (Some v) = same_kind (kind_of v) kind ≡ true
 
 -- the values of column c are of a kind
 abbrev pub ColumnOfKind : ValueKind → ℕ → List Entry → Type 0
-ColumnOfKind kind c es = All (λ e. e.column ≡ c → OfKind kind e.value) es
+ColumnOfKind kind c es = AllByRecursion (λ e. e.column ≡ c → OfKind kind e.value) es
 
 -- a value was written at n, and there is one more
 pub record ValueWritten {V : Type 0} (val : V → Value) (v : Value) (vs vs' : List V) (n n' : ℕ) : Type 0 where

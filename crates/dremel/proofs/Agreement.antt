@@ -1,7 +1,7 @@
 -- The theorem at one record. Assumes nothing.
 use Rattle.std.proofs.Common.{◌≡◌, ℕ, Bool, true, false, cond, eqb, ◌⊎◌, ◌↔◌, List, [], ◌∷◌, ◌++◌, sym, refl, ap, ◌∙◌, subst, inl, inr, arith}
 use mathlib.Core.Path.{fun_ext}
-use Rattle.std.specs.List.{AllByRecursion as All}
+use Rattle.std.specs.List.{AllByRecursion}
 use Rattle.std.proofs.ByRecursion.{All-weaker}
 use Rattle.std.proofs.lemmas.Bool.{eq-eqb, cond-true}
 use Rattle.plan.specs.Shapes.{Shape}
@@ -110,12 +110,12 @@ whole_or_broken col = go (after col.items) col.ending refl refl
 not_broken : (col : Column) → Whole col → Broken col → ⊥
 not_broken col h b = rw (b.nothing_after, b.faults) at h
 
-wholes_or_broken : (cs : Columns) (ls : List Leaf) → All (λ l. Whole (cs l.column)) ls ⊎ ((c : ℕ) × (has ls c ≡ true) × Broken (cs c))
+wholes_or_broken : (cs : Columns) (ls : List Leaf) → AllByRecursion (λ l. Whole (cs l.column)) ls ⊎ ((c : ℕ) × (has ls c ≡ true) × Broken (cs c))
 wholes_or_broken cs [] = inl tt
 wholes_or_broken cs (l ∷ ls) = go (whole_or_broken (cs l.column)) (wholes_or_broken cs ls)
   where
-    go : Whole (cs l.column) ⊎ Broken (cs l.column) → All (λ l. Whole (cs l.column)) ls ⊎ ((c : ℕ) × (has ls c ≡ true) × Broken (cs c))
-        → All (λ l. Whole (cs l.column)) (l ∷ ls) ⊎ ((c : ℕ) × (has (l ∷ ls) c ≡ true) × Broken (cs c))
+    go : Whole (cs l.column) ⊎ Broken (cs l.column) → AllByRecursion (λ l. Whole (cs l.column)) ls ⊎ ((c : ℕ) × (has ls c ≡ true) × Broken (cs c))
+        → AllByRecursion (λ l. Whole (cs l.column)) (l ∷ ls) ⊎ ((c : ℕ) × (has (l ∷ ls) c ≡ true) × Broken (cs c))
     go (inl h) (inl k) = inl (h, k)
     go (inl h) (inr k) = inr (k.0, has_more l ls k.0 k.1, k.2)
     go (inr h) k = inr (l.column, (has_itself (l ∷ ls)).0, h)
@@ -127,7 +127,7 @@ declines test s D cs = (λ b. why b.1 (wholes_or_broken cs (leaves s 0)), λ w. 
     Why : Type 0
     Why = ((c : ℕ) × Beneath s c × Broken (cs c)) ⊎ (¬ ((row : Row s) × Stored test s cs row))
 
-    why : {x : Fault} → assemble test s cs ≡ refused x → All (λ l. Whole (cs l.column)) (leaves s 0) ⊎ ((c : ℕ) × Beneath s c × Broken (cs c)) → Why
+    why : {x : Fault} → assemble test s cs ≡ refused x → AllByRecursion (λ l. Whole (cs l.column)) (leaves s 0) ⊎ ((c : ℕ) × Beneath s c × Broken (cs c)) → Why
     why e (inl h) = inr (λ p. refused_not_ok (sym e ∙ assembles test s D cs p.0 p.1 (λ c. at-column (λ c. Whole (cs c)) c (leaves s 0) h)))
     why e (inr h) = inl h
 
@@ -146,7 +146,7 @@ low_closes l [] clean h = tt
 low_closes l [] (fault code place) h = (code, place, refl)
 low_closes l (t ∷ ts) e h = subst (Flawed FromSource) (sym (cond-true (eqb (repetition t) 0) _ _ (eq-eqb (repetition t) 0 (omega arith)))) tt
 
-passes_low : (s : Shape) (cs : Columns) → All (λ l. Low 0 (passes s cs l.column).items) (leaves s 0)
+passes_low : (s : Shape) (cs : Columns) → AllByRecursion (λ l. Low 0 (passes s cs l.column).items) (leaves s 0)
 unfolding passes
 passes_low s cs = All-weaker _ _ (λ l e. rw e (after_low (cs l.column).items)) (leaves s 0) (has_itself (leaves s 0))
 

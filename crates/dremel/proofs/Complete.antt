@@ -1,7 +1,7 @@
 -- Completeness of the walk: from a row's strips before columns that do not go on with it, the walk takes the row. Assumes nothing.
 use Rattle.std.proofs.Common.{◌≡◌, ℕ, zero, suc, ◌≤◌, Bool, true, false, cond, eqb, ltb, leb, List, [], ◌∷◌, ◌++◌, length, Some, None, sym, refl, ap, ◌∙◌, subst, arith, length-append}
 use mathlib.Core.Bool.{beq}
-use Rattle.std.specs.List.{AllByRecursion as All}
+use Rattle.std.specs.List.{AllByRecursion}
 use Rattle.std.proofs.ByRecursion.{All-weaker}
 use Rattle.std.proofs.lemmas.Bool.{eq-eqb, lt-ltb, le-ltb, and_parts, cond-true, cond-false}
 use Rattle.plan.specs.Shapes.{Many, Shape, leaf, optional, group, repeated, ◌&◌, first_leaf}
@@ -18,7 +18,7 @@ use Rattle.dremel.proofs.Strips.{put-nothing, put-⊕, advance-put}
 use Rattle.dremel.proofs.Shredded.{Strip, Stripped, elsewhere, stripped, some_triplet}
 
 abbrev pub Lows : ℕ → List Leaf → Columns → Type 0
-Lows R ls cs = All (λ l. Low R (cs l.column).items) ls
+Lows R ls cs = AllByRecursion (λ l. Low R (cs l.column).items) ls
 
 low_more : (R : ℕ) (xs : List Triplet) → Low R xs → Low (suc R) xs
 low_more R [] h = tt
@@ -59,7 +59,7 @@ stripped_enters d R r ls f cs h = fine-every _ ls (All-weaker _ _ (λ l k. strip
 
 -- every column beneath chooses b
 abbrev Choose : ℕ → Bool → List Leaf → Columns → Type 0
-Choose d b ls cs = All (λ l. present d (cs l.column).items ≡ b) ls
+Choose d b ls cs = AllByRecursion (λ l. present d (cs l.column).items ≡ b) ls
 
 beq_same : (b : Bool) → beq b b ≡ true
 beq_same true = refl
@@ -101,7 +101,7 @@ module _ {A : Type 0} (Fit : A → Type 0) (Good : Columns → Type 0) (f : A �
     joined_good [] cs h = rw (put-nothing cs) h
     joined_good (row ∷ rows) cs h = rw (put-⊕ (f row) (joined f rows) cs) (goods row (put (joined f rows) cs))
 
-    more_ok : (rows : List A) (fuel : ℕ) (cs : Columns) → length rows ≤ fuel → All Fit rows → Good cs → again R (cs k).items ≡ false
+    more_ok : (rows : List A) (fuel : ℕ) (cs : Columns) → length rows ≤ fuel → AllByRecursion Fit rows → Good cs → again R (cs k).items ≡ false
         → more R k step fuel (put (joined f rows) cs) ≡ ok rows cs
     unfolding more joined put nothing
     more_ok [] zero cs n F G e = refl
@@ -128,7 +128,7 @@ enters test s d R r row cs D e = guard-fine _ _ (stripped_enters d R r (leaves s
 complete_entries : (test : ℕ → Value → Bool) (n : ℕ) (m : Many) (s : Shape) (d R r : ℕ) (row : Row s) (rows : List (Row s)) (cs : Columns) → Distinct (leaves s (suc d))
     → ((r : ℕ) (row : Row s) (cs : Columns) → Fits test s row → Lows (suc R) (leaves s (suc d)) cs
     → walk test s (suc d) (suc R) r (put (shred s (suc d) (suc R) r row) cs) ≡ ok row cs)
-    → Fits test s row → All (Fits test s) rows → Lows R (leaves s (suc d)) cs
+    → Fits test s row → AllByRecursion (Fits test s) rows → Lows R (leaves s (suc d)) cs
     → inside test (repeated n m s) d R r (put (shred (repeated n m s) d R r (row ∷ rows)) cs) ≡ ok (row ∷ rows) cs
 unfolding inside shred leaves bind walk put entries_by
 complete_entries test n m s d R r row rows cs D ih F Fs L =

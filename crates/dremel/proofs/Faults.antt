@@ -1,6 +1,6 @@
 -- The fault that a record is declined with is one of a column beneath, in its segment or just after it. Assumes nothing.
 use Rattle.std.proofs.Common.{◌≡◌, ℕ, zero, suc, ◌-◌, ◌≤◌, Bool, true, false, cond, eqb, List, [], ◌∷◌, ◌++◌, length, drop, None, sym, refl, ap, ◌∙◌, subst, append_assoc, arith, length-append}
-use Rattle.std.specs.List.{AllByRecursion as All}
+use Rattle.std.specs.List.{AllByRecursion}
 use Rattle.std.proofs.ByRecursion.{All-weaker}
 use Rattle.std.proofs.lemmas.Bool.{or_left, or_right}
 use Rattle.plan.specs.Shapes.{Shape, leaf, optional, group, repeated, ◌&◌, first_leaf}
@@ -61,7 +61,7 @@ unfolding both
 flawed_both F fine w h k = k
 flawed_both F (flaw x) w h k = h
 
-pub flawed_every : (F : Fault → Type 0) (f : Leaf → Verdict) (ls : List Leaf) → All (λ l. Flawed F (f l)) ls → Flawed F (every f ls)
+pub flawed_every : (F : Fault → Type 0) (f : Leaf → Verdict) (ls : List Leaf) → AllByRecursion (λ l. Flawed F (f l)) ls → Flawed F (every f ls)
 unfolding every
 flawed_every F f [] h = tt
 flawed_every F f (l ∷ ls) h = flawed_both F (f l) (every f ls) h.0 (flawed_every F f ls h.1)
@@ -89,7 +89,7 @@ own_of test r ls cs c h x o =
 
 -- a look at each leaf's column that finds that column's own faults
 own_every : (test : ℕ → Value → Bool) (r : ℕ) (ls : List Leaf) (cs : Columns) (f : Leaf → Verdict)
-    → All (λ l. Flawed (Of test r l.column (cs l.column).items (cs l.column).ending) (f l)) ls → Flawed (Own test r ls cs) (every f ls)
+    → AllByRecursion (λ l. Flawed (Of test r l.column (cs l.column).items (cs l.column).ending) (f l)) ls → Flawed (Own test r ls cs) (every f ls)
 own_every test r ls cs f h =
     flawed_every _ f ls (all_both _ _ _ (λ (l : Leaf) p q. flawed_weaker _ _ (f l) (own_of test r ls cs l.column p) q) ls (has_itself ls) h)
 
@@ -108,7 +108,7 @@ own_behind test r r₁ ls f cs cs₁ e k x h =
     rw e (h.0, at_behind (test x.column) r (suc r₁) (f x.column) (cs₁ x.column).items _ x (omega (arith, ap length same)) h.1)
 
 -- behind strips of other columns
-own_beside : (test : ℕ → Value → Bool) (r : ℕ) (ls : List Leaf) (f : Strips) (cs cs₁ : Columns) → cs ≡ put f cs₁ → All (λ l. f l.column ≡ []) ls
+own_beside : (test : ℕ → Value → Bool) (r : ℕ) (ls : List Leaf) (f : Strips) (cs cs₁ : Columns) → cs ≡ put f cs₁ → AllByRecursion (λ l. f l.column ≡ []) ls
     → (x : Fault) → Own test r ls cs₁ x → Own test r ls cs x
 unfolding put
 own_beside test r ls f cs cs₁ e k x h =

@@ -1,7 +1,7 @@
 -- The leaves of a shape, and facts that hold at each of them. Assumes nothing.
 use Rattle.std.proofs.Common.{◌≡◌, ℕ, suc, ◌≤◌, Bool, true, false, ◌||◌, eqb, List, [], ◌∷◌, ◌++◌, sym, refl, ◌∙◌, subst, inl, inr, arith}
 use mathlib.Core.Bool.{or_assoc}
-use Rattle.std.specs.List.{AllByRecursion as All}
+use Rattle.std.specs.List.{AllByRecursion}
 use Rattle.std.proofs.ByRecursion.{All-append, All-weaker}
 use Rattle.std.proofs.lemmas.Bool.{eqb-true, eq-eqb, or_cases, or_parts, or_left, or_right, both_ways}
 use Rattle.plan.specs.Shapes.{Shape, leaf, optional, group, repeated, ◌&◌, first_leaf}
@@ -11,20 +11,20 @@ not_so : (b : Bool) → (b ≡ true → ⊥) → b ≡ false
 not_so true h = absurd (h refl)
 not_so false h = refl
 
-pub all_parts : {X : Type 0} (P : X → Type 0) (xs ys : List X) → All P (xs ++ ys) → All P xs × All P ys
+pub all_parts : {X : Type 0} (P : X → Type 0) (xs ys : List X) → AllByRecursion P (xs ++ ys) → AllByRecursion P xs × AllByRecursion P ys
 all_parts P [] ys h = (tt, h)
 all_parts P (x ∷ xs) ys h = let k = all_parts P xs ys h.1 in ((h.0, k.0), k.1)
 
-pub all_of : {X : Type 0} (P : X → Type 0) → ((x : X) → P x) → (xs : List X) → All P xs
+pub all_of : {X : Type 0} (P : X → Type 0) → ((x : X) → P x) → (xs : List X) → AllByRecursion P xs
 all_of P h [] = tt
 all_of P h (x ∷ xs) = (h x, all_of P h xs)
 
-pub all_both : {X : Type 0} (P Q S : X → Type 0) → ((x : X) → P x → Q x → S x) → (xs : List X) → All P xs → All Q xs → All S xs
+pub all_both : {X : Type 0} (P Q S : X → Type 0) → ((x : X) → P x → Q x → S x) → (xs : List X) → AllByRecursion P xs → AllByRecursion Q xs → AllByRecursion S xs
 all_both P Q S f [] p q = tt
 all_both P Q S f (x ∷ xs) p q = (f x p.0 q.0, all_both P Q S f xs p.1 q.1)
 
 -- a fact of each leaf's column holds of each column that the leaves have
-pub at-column : (P : ℕ → Type 0) (c : ℕ) (ls : List Leaf) → All (λ l. P l.column) ls → has ls c ≡ true → P c
+pub at-column : (P : ℕ → Type 0) (c : ℕ) (ls : List Leaf) → AllByRecursion (λ l. P l.column) ls → has ls c ≡ true → P c
 unfolding has
 at-column P c [] h e = absurd (both_ways false refl e)
 at-column P c (l ∷ ls) h e =
@@ -39,7 +39,7 @@ has-append [] ys c = refl
 has-append (l ∷ ls) ys c = rw (has-append ls ys c) (sym (or_assoc (eqb l.column c) (has ls c) (has ys c)))
 
 -- the first column is one of the leaves'
-pub at_first : (P : ℕ → Type 0) (s : Shape) (d : ℕ) → All (λ l. P l.column) (leaves s d) → P (first_leaf s)
+pub at_first : (P : ℕ → Type 0) (s : Shape) (d : ℕ) → AllByRecursion (λ l. P l.column) (leaves s d) → P (first_leaf s)
 unfolding leaves
 at_first P (leaf n i) d h = h.0
 at_first P (optional n s) d h = at_first P s (suc d) h
@@ -48,7 +48,7 @@ at_first P (repeated n m s) d h = at_first P s (suc d) h
 at_first P (s & t) d h = at_first P s d (all_parts _ (leaves s d) (leaves t d) h).0
 
 -- a leaf's max is at least the definition at the node
-pub most_above : (s : Shape) (d : ℕ) → All (λ l. d ≤ l.most) (leaves s d)
+pub most_above : (s : Shape) (d : ℕ) → AllByRecursion (λ l. d ≤ l.most) (leaves s d)
 unfolding leaves
 most_above (leaf n i) d = (omega arith, tt)
 most_above (optional n s) d = All-weaker _ _ (λ l h. omega arith) (leaves s (suc d)) (most_above s (suc d))
@@ -60,7 +60,7 @@ pub has_more : (l : Leaf) (ls : List Leaf) (c : ℕ) → has ls c ≡ true → h
 unfolding has
 has_more l ls c h = or_right (eqb l.column c) (has ls c) h
 
-pub has_itself : (ls : List Leaf) → All (λ l. has ls l.column ≡ true) ls
+pub has_itself : (ls : List Leaf) → AllByRecursion (λ l. has ls l.column ≡ true) ls
 unfolding has
 has_itself [] = tt
 has_itself (l ∷ ls) = (
@@ -70,7 +70,7 @@ has_itself (l ∷ ls) = (
 
 -- no leaf has its column among the others
 abbrev pub Apart : List Leaf → List Leaf → Type 0
-Apart xs ys = All (λ l. has ys l.column ≡ false) xs
+Apart xs ys = AllByRecursion (λ l. has ys l.column ≡ false) xs
 
 apart_back : (xs ys : List Leaf) → Apart xs ys → Apart ys xs
 apart_back xs ys h =

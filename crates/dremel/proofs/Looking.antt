@@ -2,7 +2,7 @@
 use Rattle.std.proofs.Common.{◌≡◌, ℕ, zero, suc, ◌≤◌, Bool, true, false, cond, eqb, ◌⊎◌, List, [], ◌∷◌, ◌++◌, length, Some, None, sym, refl, ap, ◌∙◌, inl, inr, arith}
 use mathlib.Core.Bool.{beq}
 use mathlib.Core.List.{tail}
-use Rattle.std.specs.List.{AllByRecursion as All}
+use Rattle.std.specs.List.{AllByRecursion}
 use Rattle.std.proofs.ByRecursion.{All-append, All-weaker}
 use Rattle.plan.specs.Shapes.{Shape, leaf, optional, group, repeated, ◌&◌, first_leaf}
 use Rattle.value.specs.Values.{Value}
@@ -35,21 +35,21 @@ Shorter cs cs₁ = (c : ℕ) → length (cs₁ c).items ≤ length (cs c).items
 
 -- looks at what is to come only
 abbrev Exact : Columns → List Look → Type 0
-Exact cs looks = All (λ y. y.left ≡ length (cs y.column).items) looks
+Exact cs looks = AllByRecursion (λ y. y.left ≡ length (cs y.column).items) looks
 
 -- With a row, the looks went no further than to what is left of the columns. With a fault, they went no further than to the fault in its
 -- column, and so far.
 abbrev pub Ends : {A : Type 0} → Columns → Outcome A → List Look → Type 0
-Ends cs (ok a cs₁) looks = Shorter cs cs₁ × All (λ y. length (cs₁ y.column).items ≤ y.left) looks
+Ends cs (ok a cs₁) looks = Shorter cs cs₁ × AllByRecursion (λ y. length (cs₁ y.column).items ≤ y.left) looks
 Ends cs (refused x) looks =
-    (x.left ≤ length (cs x.column).items) × All (λ y. y.column ≡ x.column → x.left ≤ y.left) looks × Seen x.column x.left looks
+    (x.left ≤ length (cs x.column).items) × AllByRecursion (λ y. y.column ≡ x.column → x.left ≤ y.left) looks × Seen x.column x.left looks
 
 -- looks at what was to come are behind any row or fault
-exact_ok : (cs cs₁ : Columns) (looks : List Look) → Shorter cs cs₁ → Exact cs looks → All (λ y. length (cs₁ y.column).items ≤ y.left) looks
+exact_ok : (cs cs₁ : Columns) (looks : List Look) → Shorter cs cs₁ → Exact cs looks → AllByRecursion (λ y. length (cs₁ y.column).items ≤ y.left) looks
 exact_ok cs cs₁ looks s h = All-weaker _ _ (λ y e. omega (arith, e, s y.column)) looks h
 
 exact_refused : (cs : Columns) (x : Fault) (looks : List Look) → x.left ≤ length (cs x.column).items → Exact cs looks
-    → All (λ y. y.column ≡ x.column → x.left ≤ y.left) looks
+    → AllByRecursion (λ y. y.column ≡ x.column → x.left ≤ y.left) looks
 exact_refused cs x looks n h = All-weaker _ _ (λ y e c. omega (arith, e, n, ap (λ (c : ℕ). length (cs c).items) c)) looks h
 
 -- such looks first, and then others
@@ -88,7 +88,7 @@ abbrev Here : Columns → ℕ → Fault → Type 0
 Here cs c x = (x.column ≡ c) × (x.left ≡ length (cs c).items)
 
 abbrev Heres : Columns → (Leaf → Verdict) → List Leaf → Type 0
-Heres cs f ls = All (λ l. Flawed (Here cs l.column) (f l)) ls
+Heres cs f ls = AllByRecursion (λ l. Flawed (Here cs l.column) (f l)) ls
 
 exact_unless : (cs : Columns) (v : Verdict) (looks : List Look) → Exact cs looks → Exact cs (unless v looks)
 unfolding unless
@@ -120,14 +120,14 @@ each_flaw f (l ∷ ls) cs h = go (f l) h.0 (every f ls) (each_flaw f ls cs h.1)
 
 -- where none is found, each column was
 pub each_seen : (f : Leaf → Verdict) (ls : List Leaf) (cs : Columns) → every f ls ≡ fine
-    → All (λ l. Seen l.column (length (cs l.column).items) (looks_each f ls cs)) ls
+    → AllByRecursion (λ l. Seen l.column (length (cs l.column).items) (looks_each f ls cs)) ls
 unfolding looks_each every unless both
 each_seen f [] cs e = tt
 each_seen f (l ∷ ls) cs e = go (f l) e (each_seen f ls cs)
   where
     go : (v : Verdict) → both v (every f ls) ≡ fine
-        → (every f ls ≡ fine → All (λ l. Seen l.column (length (cs l.column).items) (looks_each f ls cs)) ls)
-        → All (λ k. Seen k.column (length (cs k.column).items) (look_at cs l.column ∷ unless v (looks_each f ls cs))) (l ∷ ls)
+        → (every f ls ≡ fine → AllByRecursion (λ l. Seen l.column (length (cs l.column).items) (looks_each f ls cs)) ls)
+        → AllByRecursion (λ k. Seen k.column (length (cs k.column).items) (look_at cs l.column ∷ unless v (looks_each f ls cs))) (l ∷ ls)
     go fine e later = (inl (refl, refl), All-weaker _ _ (λ k h. inr h) ls (later e))
     go (flaw x) e later = absurd (let z : ◌≡◌ {A = ℕ} 0 1 = cc in omega arith)
 
@@ -267,12 +267,12 @@ assemble_ends test s cs =
 
 -- where a record is passed, what is left of each used column was looked at
 pub assemble_seen : (test : ℕ → Value → Bool) (s : Shape) (cs : Columns)
-    → Holds (λ row cs₁. All (λ l. Seen l.column (length (cs₁ l.column).items) (looks_of test s cs)) (leaves s 0)) (assemble test s cs)
+    → Holds (λ row cs₁. AllByRecursion (λ l. Seen l.column (length (cs₁ l.column).items) (looks_of test s cs)) (leaves s 0)) (assemble test s cs)
 unfolding assemble looks_of bind further closing looks_past
 assemble_seen test s cs = go (walk test s 0 0 0 cs)
   where
     go : (o : Outcome (Row s))
-        → Holds (λ row cs₁. All (λ l. Seen l.column (length (cs₁ l.column).items) (looks_walk test s 0 0 0 cs ++ further o (λ cs₁. looks_past (closes_at cs₁) (leaves s 0) cs₁ []))) (leaves s 0))
+        → Holds (λ row cs₁. AllByRecursion (λ l. Seen l.column (length (cs₁ l.column).items) (looks_walk test s 0 0 0 cs ++ further o (λ cs₁. looks_past (closes_at cs₁) (leaves s 0) cs₁ []))) (leaves s 0))
         (bind o λ row cs₁. guard (closing (leaves s 0) cs₁) (ok row cs₁))
     go (refused x) = tt
     go (ok row cs₁) =

@@ -1,6 +1,6 @@
 -- How many triplets one record looks at. Assumes nothing.
 use Rattle.std.proofs.Common.{◌≡◌, ℕ, suc, ◌-◌, ◌≤◌, max, Bool, true, false, cond, eqb, List, [], ◌∷◌, length, refl, ap, ◌∙◌, subst, inl, inr, arith, length-append}
-use Rattle.std.specs.List.{AllByRecursion as All}
+use Rattle.std.specs.List.{AllByRecursion}
 use Rattle.std.proofs.ByRecursion.{All-weaker}
 use Rattle.std.proofs.lemmas.Bool.{eqb-true, eq-eqb, both_ways}
 use Rattle.plan.specs.Shapes.{Shape}
@@ -20,7 +20,7 @@ use Rattle.dremel.proofs.Looking.{Seen, Ends, assemble_ends, assemble_seen}
 use Rattle.dremel.proofs.Near.{Near, near_record}
 
 -- no further than to k left
-at_most : (looks : List Look) (c n k : ℕ) → All (λ y. y.column ≡ c → k ≤ y.left) looks → looked_in looks c n ≤ suc n - k
+at_most : (looks : List Look) (c n k : ℕ) → AllByRecursion (λ y. y.column ≡ c → k ≤ y.left) looks → looked_in looks c n ≤ suc n - k
 unfolding looked_in
 at_most [] c n k h = omega arith
 at_most (y ∷ looks) c n k h = go (eqb y.column c) refl (at_most looks c n k h.1)
@@ -41,7 +41,7 @@ at_least (y ∷ looks) c n k (inr h) = go (eqb y.column c) (at_least looks c n k
     go false m = m
 
 -- not at all
-not_at_all : (looks : List Look) (c n : ℕ) → All (λ y. ¬ (y.column ≡ c)) looks → looked_in looks c n ≡ 0
+not_at_all : (looks : List Look) (c n : ℕ) → AllByRecursion (λ y. ¬ (y.column ≡ c)) looks → looked_in looks c n ≡ 0
 unfolding looked_in
 not_at_all [] c n h = refl
 not_at_all (y ∷ looks) c n h = go (eqb y.column c) refl (not_at_all looks c n h.1)
@@ -82,7 +82,7 @@ module _ (test : ℕ → Value → Bool) (s : Shape) (D : Distinct (leaves s 0))
   unfolding looked passes
   beneath_least row cs₁ e c b =
       let seen = at-column (λ c. Seen c (length (cs₁ c).items) (looks_of test s cs)) c (leaves s 0)
-      (subst (Holds (λ row cs₁. All (λ l. Seen l.column (length (cs₁ l.column).items) (looks_of test s cs)) (leaves s 0))) e (assemble_seen test s cs)) b in
+      (subst (Holds (λ row cs₁. AllByRecursion (λ l. Seen l.column (length (cs₁ l.column).items) (looks_of test s cs)) (leaves s 0))) e (assemble_seen test s cs)) b in
       let left : length (cs₁ c).items ≡ length (after (cs c).items) = ap (λ (cs : Columns). length (cs c).items) ((agreement test s D cs).sound row cs₁ e).2 ∙ rw b refl in
       omega (arith, at_least (looks_of test s cs) c (length (cs c).items) (length (cs₁ c).items) seen, left, counted c)
 

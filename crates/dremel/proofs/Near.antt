@@ -1,6 +1,6 @@
 -- The walk looks no further than one past the segment, and at no column but those beneath. Assumes nothing.
 use Rattle.std.proofs.Common.{◌≡◌, ℕ, zero, suc, ◌≤◌, Bool, true, false, cond, List, [], ◌∷◌, ◌++◌, length, sym, ap, ◌∙◌, subst, arith}
-use Rattle.std.specs.List.{AllByRecursion as All}
+use Rattle.std.specs.List.{AllByRecursion}
 use Rattle.std.proofs.ByRecursion.{All-append, All-weaker}
 use Rattle.std.proofs.lemmas.Bool.{or_left, or_right}
 use Rattle.plan.specs.Shapes.{Shape, leaf, optional, group, repeated, ◌&◌, first_leaf}
@@ -25,41 +25,41 @@ Near r ls cs y = (has ls y.column ≡ true) × (length (rest r (cs y.column).ite
 near_at : (r : ℕ) (ls : List Leaf) (cs : Columns) (c : ℕ) → has ls c ≡ true → Near r ls cs (look_at cs c)
 near_at r ls cs c h = (h, rest_short r (cs c).items)
 
-near_unless : (P : Look → Type 0) (v : Verdict) (looks : List Look) → All P looks → All P (unless v looks)
+near_unless : (P : Look → Type 0) (v : Verdict) (looks : List Look) → AllByRecursion P looks → AllByRecursion P (unless v looks)
 unfolding unless
 near_unless P fine looks h = h
 near_unless P (flaw x) looks h = tt
 
 near_further : {A : Type 0} (P : Look → Type 0) (Q : A → Columns → Type 0) (o : Outcome A) (looks : Columns → List Look)
-    → Holds Q o → ((a : A) (cs : Columns) → Q a cs → All P (looks cs)) → All P (further o looks)
+    → Holds Q o → ((a : A) (cs : Columns) → Q a cs → AllByRecursion P (looks cs)) → AllByRecursion P (further o looks)
 unfolding further
 near_further P Q (ok a cs) looks q h = h a cs q
 near_further P Q (refused x) looks q h = tt
 
-near_cond : (P : Look → Type 0) (b : Bool) (looks : List Look) → All P looks → All P (cond b looks [])
+near_cond : (P : Look → Type 0) (b : Bool) (looks : List Look) → AllByRecursion P looks → AllByRecursion P (cond b looks [])
 near_cond P true looks h = h
 near_cond P false looks h = tt
 
-near_each : (r : ℕ) (f : Leaf → Verdict) (ms ls : List Leaf) (cs : Columns) → All (λ l. has ls l.column ≡ true) ms → All (Near r ls cs) (looks_each f ms cs)
+near_each : (r : ℕ) (f : Leaf → Verdict) (ms ls : List Leaf) (cs : Columns) → AllByRecursion (λ l. has ls l.column ≡ true) ms → AllByRecursion (Near r ls cs) (looks_each f ms cs)
 unfolding looks_each
 near_each r f [] ls cs h = tt
 near_each r f (m ∷ ms) ls cs h = (near_at r ls cs m.column h.0, near_unless _ (f m) _ (near_each r f ms ls cs h.1))
 
-near_past : (r : ℕ) (f : Leaf → Verdict) (ls : List Leaf) (cs : Columns) (looks : List Look) → All (Near r ls cs) looks → All (Near r ls cs) (looks_past f ls cs looks)
+near_past : (r : ℕ) (f : Leaf → Verdict) (ls : List Leaf) (cs : Columns) (looks : List Look) → AllByRecursion (Near r ls cs) looks → AllByRecursion (Near r ls cs) (looks_past f ls cs looks)
 unfolding looks_past
 near_past r f ls cs looks h = All-append _ (looks_each f ls cs) _ (near_each r f ls ls cs (has_itself ls)) (near_unless _ (every f ls) looks h)
 
-near_entered : (d r : ℕ) (ls : List Leaf) (looks : Columns → List Look) (cs : Columns) → All (Near r ls cs) (looks cs) → All (Near r ls cs) (looks_entered d r ls looks cs)
+near_entered : (d r : ℕ) (ls : List Leaf) (looks : Columns → List Look) (cs : Columns) → AllByRecursion (Near r ls cs) (looks cs) → AllByRecursion (Near r ls cs) (looks_entered d r ls looks cs)
 unfolding looks_entered
 near_entered d r ls looks cs h = near_past r (meets_at d r cs) ls cs (looks cs) h
 
-near_chosen : (d r : ℕ) (b : Bool) (ls : List Leaf) (looks : List Look) (cs : Columns) → All (Near r ls cs) looks → All (Near r ls cs) (looks_chosen d b ls looks cs)
+near_chosen : (d r : ℕ) (b : Bool) (ls : List Leaf) (looks : List Look) (cs : Columns) → AllByRecursion (Near r ls cs) looks → AllByRecursion (Near r ls cs) (looks_chosen d b ls looks cs)
 unfolding looks_chosen
 near_chosen d r b ls looks cs h = near_past r (agrees_at d b cs) ls cs _ (near_cond _ b looks h)
 
 -- looks behind strips of the same columns, where the segment goes on
 near_behind : (r r₁ : ℕ) (ls : List Leaf) (f : Strips) (cs cs₁ : Columns) → cs ≡ put f cs₁ → Rests r ls f → (looks : List Look)
-    → All (Near (suc r₁) ls cs₁) looks → All (Near r ls cs) looks
+    → AllByRecursion (Near (suc r₁) ls cs₁) looks → AllByRecursion (Near r ls cs) looks
 unfolding put
 near_behind r r₁ ls f cs cs₁ e k looks h =
     All-weaker _ _ (λ (y : Look) n.
@@ -67,8 +67,8 @@ near_behind r r₁ ls f cs cs₁ e k looks h =
     rw e (n.0, omega (arith, ap length same, n.1))) looks h
 
 -- looks behind strips of other columns
-near_beside : (r : ℕ) (ls : List Leaf) (f : Strips) (cs cs₁ : Columns) → cs ≡ put f cs₁ → All (λ l. f l.column ≡ []) ls → (looks : List Look)
-    → All (Near r ls cs₁) looks → All (Near r ls cs) looks
+near_beside : (r : ℕ) (ls : List Leaf) (f : Strips) (cs cs₁ : Columns) → cs ≡ put f cs₁ → AllByRecursion (λ l. f l.column ≡ []) ls → (looks : List Look)
+    → AllByRecursion (Near r ls cs₁) looks → AllByRecursion (Near r ls cs) looks
 unfolding put
 near_beside r ls f cs cs₁ e k looks h =
     All-weaker _ _ (λ (y : Look) n.
@@ -76,8 +76,8 @@ near_beside r ls f cs cs₁ e k looks h =
     rw e (n.0, subst (λ (zs : List Triplet). length (rest r (zs ++ (cs₁ y.column).items)) ≤ y.left) (sym none) n.1)) looks h
 
 near_more : {A : Type 0} (Fit : A → Type 0) (f : A → Strips) (R c : ℕ) (step : Columns → Outcome A) (looks : Columns → List Look) (ls : List Leaf) → has ls c ≡ true
-    → ((cs : Columns) → Holds (Taken Fit f cs) (step cs)) → ((cs : Columns) → All (Near (suc R) ls cs) (looks cs)) → ((row : A) → Rests (suc R) ls (f row))
-    → (fuel : ℕ) (cs : Columns) → All (Near (suc R) ls cs) (looks_more R c step looks fuel cs)
+    → ((cs : Columns) → Holds (Taken Fit f cs) (step cs)) → ((cs : Columns) → AllByRecursion (Near (suc R) ls cs) (looks cs)) → ((row : A) → Rests (suc R) ls (f row))
+    → (fuel : ℕ) (cs : Columns) → AllByRecursion (Near (suc R) ls cs) (looks_more R c step looks fuel cs)
 unfolding looks_more
 near_more Fit f R c step looks ls b h g k zero cs = (near_at (suc R) ls cs c b, tt)
 near_more Fit f R c step looks ls b h g k (suc fuel) cs = (
@@ -88,14 +88,14 @@ near_more Fit f R c step looks ls b h g k (suc fuel) cs = (
       near_behind (suc R) R ls (f row) cs cs₁ p.1 (k row) _ (near_more Fit f R c step looks ls b h g k fuel cs₁))),
 )
 
-near_left : (r : ℕ) (ls ms : List Leaf) (cs : Columns) (looks : List Look) → All (Near r ls cs) looks → All (Near r (ls ++ ms) cs) looks
+near_left : (r : ℕ) (ls ms : List Leaf) (cs : Columns) (looks : List Look) → AllByRecursion (Near r ls cs) looks → AllByRecursion (Near r (ls ++ ms) cs) looks
 near_left r ls ms cs looks h = All-weaker _ _ (λ (y : Look) n. (has-append ls ms y.column ∙ or_left _ _ n.0, n.1)) looks h
 
-near_right : (r : ℕ) (ls ms : List Leaf) (cs : Columns) (looks : List Look) → All (Near r ms cs) looks → All (Near r (ls ++ ms) cs) looks
+near_right : (r : ℕ) (ls ms : List Leaf) (cs : Columns) (looks : List Look) → AllByRecursion (Near r ms cs) looks → AllByRecursion (Near r (ls ++ ms) cs) looks
 near_right r ls ms cs looks h = All-weaker _ _ (λ (y : Look) n. (has-append ls ms y.column ∙ or_right _ _ n.0, n.1)) looks h
 
 -- a walk
-near_walk : (test : ℕ → Value → Bool) (s : Shape) (d R r : ℕ) (cs : Columns) → Distinct (leaves s d) → All (Near r (leaves s d) cs) (looks_walk test s d R r cs)
+near_walk : (test : ℕ → Value → Bool) (s : Shape) (d R r : ℕ) (cs : Columns) → Distinct (leaves s d) → AllByRecursion (Near r (leaves s d) cs) (looks_walk test s d R r cs)
 unfolding looks_walk looks_inside looks_entries_by leaves
 near_walk test (leaf n i) d R r cs D =
     let ls : List Leaf = leaves (leaf n i) d in
@@ -124,7 +124,7 @@ near_walk test (s & t) d R r cs D =
     (near_walk test t d R r cs₁ p.1))))
 
 -- one record
-pub near_record : (test : ℕ → Value → Bool) (s : Shape) (cs : Columns) → Distinct (leaves s 0) → All (Near 0 (leaves s 0) cs) (looks_of test s cs)
+pub near_record : (test : ℕ → Value → Bool) (s : Shape) (cs : Columns) → Distinct (leaves s 0) → AllByRecursion (Near 0 (leaves s 0) cs) (looks_of test s cs)
 unfolding looks_of
 near_record test s cs D =
     All-append _ (looks_walk test s 0 0 0 cs) _ (near_walk test s 0 0 0 cs D)

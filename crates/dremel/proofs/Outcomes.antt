@@ -1,6 +1,6 @@
 -- Facts of a walk's outcome, put together from facts of its parts. Assumes nothing.
 use Rattle.std.proofs.Common.{◌≡◌, ℕ, Bool, true, false, cond, List, [], ◌∷◌, refl, arith}
-use Rattle.std.specs.List.{AllByRecursion as All}
+use Rattle.std.specs.List.{AllByRecursion}
 use Rattle.dremel.specs.Leaves.{Leaf}
 use Rattle.dremel.specs.Triplets.{Columns}
 use Rattle.dremel.specs.Walk.{Fault, Outcome, ok, refused, Verdict, fine, flaw, guard, bind, both, every}
@@ -49,12 +49,12 @@ unfolding both
 both-fine fine w e = (refl, e)
 both-fine (flaw x) w e = absurd (flaw_not_fine e)
 
-pub every-fine : (f : Leaf → Verdict) (ls : List Leaf) → every f ls ≡ fine → All (λ l. f l ≡ fine) ls
+pub every-fine : (f : Leaf → Verdict) (ls : List Leaf) → every f ls ≡ fine → AllByRecursion (λ l. f l ≡ fine) ls
 unfolding every
 every-fine f [] e = tt
 every-fine f (l ∷ ls) e = let h = both-fine (f l) (every f ls) e in (h.0, every-fine f ls h.1)
 
-pub fine-every : (f : Leaf → Verdict) (ls : List Leaf) → All (λ l. f l ≡ fine) ls → every f ls ≡ fine
+pub fine-every : (f : Leaf → Verdict) (ls : List Leaf) → AllByRecursion (λ l. f l ≡ fine) ls → every f ls ≡ fine
 unfolding every both
 fine-every f [] h = refl
 fine-every f (l ∷ ls) h = rw h.0 (fine-every f ls h.1)

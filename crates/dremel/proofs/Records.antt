@@ -1,6 +1,6 @@
 -- One record: the walk, and then every column at a new record or at its clean end. Assumes nothing.
 use Rattle.std.proofs.Common.{◌≡◌, ℕ, Bool, List, [], ◌∷◌, refl, ◌∙◌, arith}
-use Rattle.std.specs.List.{AllByRecursion as All}
+use Rattle.std.specs.List.{AllByRecursion}
 use Rattle.std.proofs.ByRecursion.{All-weaker}
 use Rattle.std.proofs.lemmas.Bool.{eqb-true, eq-eqb, cond-true}
 use Rattle.plan.specs.Shapes.{Shape}
@@ -29,7 +29,7 @@ fresh_closes l (t ∷ ts) e h k = cond-true _ _ _ (eq-eqb (repetition t) 0 (omeg
 
 -- each column of the leaves is at a new record, or at its clean end
 abbrev pub Freshes : List Leaf → Columns → Type 0
-Freshes ls cs = All (λ l. Fresh (cs l.column)) ls
+Freshes ls cs = AllByRecursion (λ l. Fresh (cs l.column)) ls
 
 closing_fresh : (ls : List Leaf) (cs : Columns) → closing ls cs ≡ fine → Freshes ls cs
 unfolding closing

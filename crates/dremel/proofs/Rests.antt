@@ -1,6 +1,6 @@
 -- What comes after a segment, seen from inside it. Assumes nothing.
 use Rattle.std.proofs.Common.{◌≡◌, ℕ, zero, suc, ◌≤◌, Bool, true, false, cond, eqb, List, [], ◌∷◌, ◌++◌, length, refl, ◌∙◌, arith}
-use Rattle.std.specs.List.{AllByRecursion as All}
+use Rattle.std.specs.List.{AllByRecursion}
 use Rattle.std.proofs.ByRecursion.{All-weaker}
 use Rattle.std.proofs.lemmas.Bool.{ne_eqb, cond-false}
 use Rattle.plan.specs.Shapes.{Shape}
@@ -47,7 +47,7 @@ rest_strip d R zero m (t ∷ ts) ys h = onward_above ts ys (All-weaker _ _ (λ u
 rest_strip d R (suc r) m (t ∷ ts) ys h = onward_above (t ∷ ts) ys (omega arith, All-weaker _ _ (λ u k. omega arith) ts h.2)
 
 abbrev pub Rests : ℕ → List Leaf → Strips → Type 0
-Rests r ls f = All (λ l. (ys : List Triplet) → rest r (f l.column ++ ys) ≡ onward ys) ls
+Rests r ls f = AllByRecursion (λ l. (ys : List Triplet) → rest r (f l.column ++ ys) ≡ onward ys) ls
 
 pub rests : (s : Shape) (d R r : ℕ) (row : Row s) → Distinct (leaves s d) → Rests r (leaves s d) (shred s d R r row)
 rests s d R r row D = All-weaker _ _ (λ l h ys. rest_strip d R r l.most _ ys h) (leaves s d) (stripped s d R r row D)

@@ -1,6 +1,6 @@
 -- Several records, one after the other. Assumes nothing.
 use Rattle.std.proofs.Common.{◌≡◌, ℕ, zero, suc, Bool, List, [], ◌∷◌, ◌++◌, length, sym, refl, ap, ◌∙◌, subst, arith}
-use Rattle.std.specs.List.{AllByRecursion as All}
+use Rattle.std.specs.List.{AllByRecursion}
 use Rattle.std.proofs.ByRecursion.{All-weaker}
 use Rattle.plan.specs.Shapes.{Shape}
 use Rattle.value.specs.Values.{Value}
@@ -17,7 +17,7 @@ use Rattle.dremel.proofs.Shredded.{Strip, stripped}
 use Rattle.dremel.proofs.Records.{Freshes, assemble_holds, assemble-put}
 
 pub run_holds : (test : ℕ → Value → Bool) (s : Shape) (n : ℕ) (cs : Columns)
-    → Holds (λ rows cs₁. (length rows ≡ n) × All (Fits test s) rows × (cs ≡ put (joined (shredded s) rows) cs₁)) (read test s n cs)
+    → Holds (λ rows cs₁. (length rows ≡ n) × AllByRecursion (Fits test s) rows × (cs ≡ put (joined (shredded s) rows) cs₁)) (read test s n cs)
 unfolding read joined
 run_holds test s zero cs = (refl, tt, sym (put-nothing cs))
 run_holds test s (suc n) cs =
@@ -37,7 +37,7 @@ rows_fresh s D (row ∷ rows) cs h =
     subst (Freshes (leaves s 0)) (sym (put-⊕ (shredded s row) (joined (shredded s) rows) cs))
     (All-weaker _ _ (λ l k. strip_fresh l.most (shredded s row l.column) _ _ k) (leaves s 0) (stripped s 0 0 0 row D))
 
-pub run_put : (test : ℕ → Value → Bool) (s : Shape) → Distinct (leaves s 0) → (rows : List (Row s)) (cs : Columns) → All (Fits test s) rows → Freshes (leaves s 0) cs
+pub run_put : (test : ℕ → Value → Bool) (s : Shape) → Distinct (leaves s 0) → (rows : List (Row s)) (cs : Columns) → AllByRecursion (Fits test s) rows → Freshes (leaves s 0) cs
     → read test s (length rows) (put (joined (shredded s) rows) cs) ≡ ok rows cs
 unfolding read joined
 run_put test s D [] cs F h = ap (ok []) (put-nothing cs)

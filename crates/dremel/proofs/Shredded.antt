@@ -1,7 +1,7 @@
 -- What shredding gives in a column: nothing where the column is not beneath, else a strip that begins with the repetition asked for
 -- and goes on above the depth. Assumes nothing.
 use Rattle.std.proofs.Common.{◌≡◌, ℕ, suc, ◌<◌, ◌≤◌, true, false, ltb, leb, List, [], ◌∷◌, ◌++◌, length, Some, None, sym, refl, ◌∙◌, arith, length-append}
-use Rattle.std.specs.List.{AllByRecursion as All}
+use Rattle.std.specs.List.{AllByRecursion}
 use Rattle.std.proofs.ByRecursion.{All-append, All-weaker}
 use Rattle.std.proofs.lemmas.Bool.{leb-true, le-leb, lt-ltb, and_parts, and_from, or_parts, cond-false}
 use Rattle.plan.specs.Shapes.{Shape, leaf, optional, group, repeated, ◌&◌, first_leaf}
@@ -13,7 +13,7 @@ use Rattle.dremel.proofs.Leaves.{all_both, all_of, at_first, has-append, has_its
 
 -- repetitions above R
 abbrev pub Above : ℕ → List Triplet → Type 0
-Above R xs = All (λ t. R < repetition t) xs
+Above R xs = AllByRecursion (λ t. R < repetition t) xs
 
 -- a column's part of a row: it begins with repetition r and a definition from d to m, and goes on above R
 abbrev pub Strip : ℕ → ℕ → ℕ → ℕ → List Triplet → Type 0
@@ -68,9 +68,9 @@ strip_after d R r m xs ys e h = rw e h
 
 -- each leaf's column of a strip or strips
 abbrev pub Stripped : ℕ → ℕ → ℕ → List Leaf → Strips → Type 0
-Stripped d R r ls f = All (λ l. Strip d R r l.most (f l.column)) ls
+Stripped d R r ls f = AllByRecursion (λ l. Strip d R r l.most (f l.column)) ls
 
-single_stripped : (d R r : ℕ) (ls : List Leaf) (t : Triplet) → repetition t ≡ r → All (λ l. within d l.most t ≡ true) ls → Stripped d R r ls (single ls t)
+single_stripped : (d R r : ℕ) (ls : List Leaf) (t : Triplet) → repetition t ≡ r → AllByRecursion (λ l. within d l.most t ≡ true) ls → Stripped d R r ls (single ls t)
 unfolding single
 single_stripped d R r ls t e h =
     all_both _ _ _ (λ l p q. rw p (e, q, tt)) ls (has_itself ls) h
@@ -81,7 +81,7 @@ gap_stripped s d R r =
     (All-weaker _ _ (λ l h. and_from (leb d d) (ltb d l.most) (le-leb d d (omega arith)) (lt-ltb d l.most h)) (leaves s (suc d)) (most_above s (suc d)))
 
 joined_above : {A : Type 0} (f : A → Strips) (d R : ℕ) (ls : List Leaf) → ((row : A) → Stripped d (suc R) (suc R) ls (f row))
-    → (rows : List A) → All (λ l. Above R (joined f rows l.column)) ls
+    → (rows : List A) → AllByRecursion (λ l. Above R (joined f rows l.column)) ls
 unfolding joined nothing ◌⊕◌
 joined_above f d R ls h [] = all_of _ (λ l. tt) ls
 joined_above f d R ls h (row ∷ rows) =

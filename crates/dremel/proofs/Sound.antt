@@ -1,7 +1,7 @@
 -- Soundness of the walk: what it took off the columns is the row shredded, and the row fits. Assumes nothing.
 use Rattle.std.proofs.Common.{◌≡◌, ℕ, zero, suc, Bool, true, false, eqb, ltb, leb, List, [], ◌∷◌, None, sym, refl, ap, ◌∙◌, arith}
 use mathlib.Core.Bool.{beq}
-use Rattle.std.specs.List.{AllByRecursion as All}
+use Rattle.std.specs.List.{AllByRecursion}
 use Rattle.std.proofs.ByRecursion.{All-weaker}
 use Rattle.std.proofs.lemmas.Bool.{eqb-true, leb-true, ltb-false, and_parts, both_ways}
 use Rattle.plan.specs.Shapes.{Shape, leaf, optional, group, repeated, ◌&◌, first_leaf}
@@ -28,7 +28,7 @@ meets_stands d r l (t ∷ ts) e h =
     (eqb-true (repetition t) r k.0, (cond_fine (within d l.most t) _ _ k.1).0)
 
 pub entering_stands : (d r : ℕ) (ls : List Leaf) (cs : Columns) → entering d r ls cs ≡ fine
-    → All (λ l. Stands d r l.most (cs l.column).items) ls
+    → AllByRecursion (λ l. Stands d r l.most (cs l.column).items) ls
 unfolding entering
 entering_stands d r ls cs h = All-weaker _ _ (λ l k. meets_stands d r l _ _ k) ls (every-fine _ ls h)
 
@@ -76,7 +76,7 @@ taken_holds k d r test (full r' v ∷ ts) cs h = holds_cond _ (test v) _ _ (λ p
 
 more_holds : {A : Type 0} (Fit : A → Type 0) (f : A → Strips) (R k : ℕ) (step : Columns → Outcome A)
     → ((cs : Columns) → Holds (Taken Fit f cs) (step cs))
-    → (fuel : ℕ) (cs : Columns) → Holds (Taken (All Fit) (joined f) cs) (more R k step fuel cs)
+    → (fuel : ℕ) (cs : Columns) → Holds (Taken (AllByRecursion Fit) (joined f) cs) (more R k step fuel cs)
 unfolding more joined
 more_holds Fit f R k step h zero cs = (tt, sym (put-nothing cs))
 more_holds Fit f R k step h (suc fuel) cs =

@@ -2,7 +2,7 @@
 use Rattle.std.proofs.Common.{◌≡◌, ℕ, Bool, true, false, cond, List, [], ◌∷◌, ◌++◌, refl, append_assoc}
 use mathlib.Core.Path.{fun_ext}
 use mathlib.Core.List.{tail}
-use Rattle.std.specs.List.{AllByRecursion as All}
+use Rattle.std.specs.List.{AllByRecursion}
 use Rattle.dremel.specs.Leaves.{Leaf, has}
 use Rattle.dremel.specs.Triplets.{Triplet, Column, Columns, Strips, put, ◌⊕◌}
 use Rattle.dremel.specs.Shredding.{nothing, single}
@@ -21,7 +21,7 @@ put-⊕ f g cs = fun_ext λ c i. record { items = append_assoc (f c) (g c) (cs c
 abbrev pub Begins : Triplet → List Triplet → Type 0
 Begins t xs = xs ≡ t ∷ tail xs
 
-pub put-advance : (t : Triplet) (ls : List Leaf) (cs : Columns) → All (λ l. Begins t (cs l.column).items) ls
+pub put-advance : (t : Triplet) (ls : List Leaf) (cs : Columns) → AllByRecursion (λ l. Begins t (cs l.column).items) ls
     → cs ≡ put (single ls t) (advance ls cs)
 unfolding put single advance
 put-advance t ls cs h = fun_ext λ c. go c (has ls c) (at-column (λ c. Begins t (cs c).items) c ls h)

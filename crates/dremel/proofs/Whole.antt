@@ -1,7 +1,7 @@
 -- Whole columns: n rows, one after the other, and nothing else. Assumes nothing.
 use Rattle.std.proofs.Common.{◌≡◌, ℕ, Bool, true, false, cond, ◌↔◌, List, [], ◌++◌, length, sym, refl, ap, ◌∙◌, subst, append-nil}
 use mathlib.Core.Path.{fun_ext}
-use Rattle.std.specs.List.{AllByRecursion as All}
+use Rattle.std.specs.List.{AllByRecursion}
 use Rattle.std.proofs.ByRecursion.{All-weaker}
 use Rattle.plan.specs.Shapes.{Shape}
 use Rattle.value.specs.Values.{Value}
@@ -36,7 +36,7 @@ holding_put s cs rows h = fun_ext λ c. go c (has (leaves s 0) c) refl
     go c true e = h c e ∙ (λ i. record { items = sym (append-nil (f c)) i; ending = clean })
     go c false e = λ i. record { items = sym (joined-nothing (shredded s) c (λ row. elsewhere s 0 0 0 row c e) rows) i ++ (cs c).items; ending = (cs c).ending }
 
-spent_fresh : (s : Shape) (cs : Columns) → All (λ l. Fresh (spent s cs l.column)) (leaves s 0)
+spent_fresh : (s : Shape) (cs : Columns) → AllByRecursion (λ l. Fresh (spent s cs l.column)) (leaves s 0)
 unfolding spent
 spent_fresh s cs = All-weaker _ _ (λ l e. rw e (record { low = tt; closed = tt })) (leaves s 0) (has_itself (leaves s 0))
 
@@ -52,25 +52,25 @@ put_holding s cs cs₁ rows e h c b =
     ∙ (λ i. record { items = append-nil (joined (shredded s) rows c) i; ending = clean })
 
 wholly : (test : ℕ → Value → Bool) (s : Shape) → Distinct (leaves s 0) → (cs : Columns) (n : ℕ) (rows : List (Row s))
-    → ((length rows ≡ n) × All (Fits test s) rows × Holding s cs rows) ↔ ((cs₁ : Columns) × (read test s n cs ≡ ok rows cs₁) × Spent s cs₁)
+    → ((length rows ≡ n) × AllByRecursion (Fits test s) rows × Holding s cs rows) ↔ ((cs₁ : Columns) × (read test s n cs ≡ ok rows cs₁) × Spent s cs₁)
 wholly test s D cs n rows = (
   λ h. (spent s cs, passing h, spent_spent s cs),
   λ k. let q = sounding k.0 k.1 in (q.0, q.1, put_holding s cs k.0 rows q.2 k.2),
 )
   where
-    passing : (length rows ≡ n) × All (Fits test s) rows × Holding s cs rows → read test s n cs ≡ ok rows (spent s cs)
+    passing : (length rows ≡ n) × AllByRecursion (Fits test s) rows × Holding s cs rows → read test s n cs ≡ ok rows (spent s cs)
     passing h =
         ap (λ (n : ℕ). read test s n cs) (sym h.0)
         ∙ ap (read test s (length rows)) (holding_put s cs rows h.2)
         ∙ run_put test s D rows (spent s cs) h.1 (spent_fresh s cs)
 
-    sounding : (cs₁ : Columns) → read test s n cs ≡ ok rows cs₁ → (length rows ≡ n) × All (Fits test s) rows × (cs ≡ put (joined (shredded s) rows) cs₁)
+    sounding : (cs₁ : Columns) → read test s n cs ≡ ok rows cs₁ → (length rows ≡ n) × AllByRecursion (Fits test s) rows × (cs ≡ put (joined (shredded s) rows) cs₁)
     sounding cs₁ e =
-        subst (Holds (λ rows cs₁. (length rows ≡ n) × All (Fits test s) rows × (cs ≡ put (joined (shredded s) rows) cs₁))) e (run_holds test s n cs)
+        subst (Holds (λ rows cs₁. (length rows ≡ n) × AllByRecursion (Fits test s) rows × (cs ≡ put (joined (shredded s) rows) cs₁))) e (run_holds test s n cs)
 
 pub runs : Runs
 runs test s D = record {
   whole = wholly test s D;
-  sound = λ cs n rows cs₁ e. subst (Holds (λ rows cs₁. (length rows ≡ n) × All (Fits test s) rows × (cs ≡ put (joined (shredded s) rows) cs₁))) e (run_holds test s n cs);
+  sound = λ cs n rows cs₁ e. subst (Holds (λ rows cs₁. (length rows ≡ n) × AllByRecursion (Fits test s) rows × (cs ≡ put (joined (shredded s) rows) cs₁))) e (run_holds test s n cs);
   complete = λ cs rows F h. run_put test s D rows cs F (All-weaker _ _ (λ l e. h l.column e) (leaves s 0) (has_itself (leaves s 0)));
 }

@@ -1,6 +1,6 @@
 -- The theorem: assembling a record and shredding a row agree. Assumes nothing.
 use Rattle.std.specs.Prelude.{◌≡◌, ℕ, suc, ◌≤◌, Bool, false, cond, ◌⊎◌, ◌↔◌, List, [], ◌∷◌, length, drop}
-use Rattle.std.specs.List.{AllByRecursion as All}
+use Rattle.std.specs.List.{AllByRecursion}
 use Rattle.plan.specs.Shapes.{Shape, first_leaf}
 use Rattle.value.specs.Values.{Value}
 use Rattle.dremel.specs.Rows.{Row, Fits}
@@ -76,12 +76,12 @@ Spent s cs = (c : ℕ) → Beneath s c → cs c ≡ record { items = []; ending 
 pub record RunsAgree (test : ℕ → Value → Bool) (s : Shape) : Type 0 where
   -- n rows that fit shred to whole columns exactly if n records are passed, these rows, and nothing is left
   pub whole : (cs : Columns) (n : ℕ) (rows : List (Row s))
-      → ((length rows ≡ n) × All (Fits test s) rows × Holding s cs rows) ↔ ((cs₁ : Columns) × (read test s n cs ≡ ok rows cs₁) × Spent s cs₁)
+      → ((length rows ≡ n) × AllByRecursion (Fits test s) rows × Holding s cs rows) ↔ ((cs₁ : Columns) × (read test s n cs ≡ ok rows cs₁) × Spent s cs₁)
   -- whatever is left: the rows passed fit, and the columns were their triplets before what is left
   pub sound : (cs : Columns) (n : ℕ) (rows : List (Row s)) (cs₁ : Columns) → read test s n cs ≡ ok rows cs₁
-      → (length rows ≡ n) × All (Fits test s) rows × (cs ≡ put (joined (shredded s) rows) cs₁)
+      → (length rows ≡ n) × AllByRecursion (Fits test s) rows × (cs ≡ put (joined (shredded s) rows) cs₁)
   -- rows that fit are passed where what follows them is at a new record or at its clean end
-  pub complete : (cs : Columns) (rows : List (Row s)) → All (Fits test s) rows → ((c : ℕ) → Beneath s c → Fresh (cs c))
+  pub complete : (cs : Columns) (rows : List (Row s)) → AllByRecursion (Fits test s) rows → ((c : ℕ) → Beneath s c → Fresh (cs c))
       → read test s (length rows) (put (joined (shredded s) rows) cs) ≡ ok rows cs
 
 -- for every test and every shape that names no column twice

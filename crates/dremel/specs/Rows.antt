@@ -1,6 +1,6 @@
 -- The stored rows of a shape. Assumes nothing.
 use Rattle.std.specs.Prelude.{◌≡◌, ℕ, Bool, true, List, Some, None, Option}
-use Rattle.std.specs.List.{AllByRecursion as All}
+use Rattle.std.specs.List.{AllByRecursion}
 use Rattle.plan.specs.Shapes.{Shape, leaf, optional, group, repeated, ◌&◌}
 use Rattle.value.specs.Values.{Value}
 
@@ -19,5 +19,5 @@ Fits test (leaf n i) v = test i v ≡ true
 Fits test (optional n s) None = Unit {0}
 Fits test (optional n s) (Some row) = Fits test s row
 Fits test (group n s) row = Fits test s row
-Fits test (repeated n m s) rows = All (Fits test s) rows
+Fits test (repeated n m s) rows = AllByRecursion (Fits test s) rows
 Fits test (s & t) row = Fits test s row.0 × Fits test t row.1

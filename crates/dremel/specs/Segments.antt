@@ -1,6 +1,6 @@
 -- The part of a column that one record has: its segment. Assumes nothing.
 use Rattle.std.specs.Prelude.{◌≡◌, ℕ, ◌<◌, ◌≤◌, cond, List, [], ◌∷◌, ◌==◌}
-use Rattle.std.specs.List.{AllByRecursion as All}
+use Rattle.std.specs.List.{AllByRecursion}
 use Rattle.dremel.specs.Triplets.{Triplet, Ending, clean, fault, Column, repetition}
 
 -- the triplets before the next with repetition 0
@@ -57,4 +57,4 @@ beyond col = record { items = after col.items; ending = col.ending }
 -- not empty, begins with repetition 0, and has no other 0
 abbrev pub IsSegment : List Triplet → Type 0
 IsSegment [] = ⊥
-IsSegment (t ∷ ts) = (repetition t ≡ 0) × All (λ u. 0 < repetition u) ts
+IsSegment (t ∷ ts) = (repetition t ≡ 0) × AllByRecursion (λ u. 0 < repetition u) ts

@@ -1,6 +1,6 @@
 -- The room of a row. Assumes nothing.
 use Rattle.std.proofs.Common.{◌≡◌, ℕ, suc, ◌+◌, ◌*◌, ◌^◌, ◌<◌, ◌≤◌, max, Bool, true, false, cond, ◌&&◌, leb, List, [], ◌∷◌, ◌++◌, length, Some, None, sum_by, Option, sym, refl, ap, ◌∙◌, add-mul, mul-le-mul_left, zero-mul, mul-suc, arith}
-use Rattle.std.specs.List.{flat_map, AllByRecursion as All}
+use Rattle.std.specs.List.{flat_map, AllByRecursion}
 use Rattle.std.proofs.lemmas.List.{length-append, append-nil}
 use Rattle.std.proofs.ByRecursion.{All-weaker}
 use Rattle.std.proofs.lemmas.List.Sums.{sum_by-cons}
@@ -44,12 +44,12 @@ triplet_positive (repeated n m s) [] = leaf_positive s
 triplet_positive (repeated n m s) (row ∷ rows) = omega (arith, triplet_positive s row)
 triplet_positive (s & t) row = omega (arith, triplet_positive s row.0)
 
-everywhere : {A : Type 0} (P : A → Type 0) → ((x : A) → P x) → (xs : List A) → All P xs
+everywhere : {A : Type 0} (P : A → Type 0) → ((x : A) → P x) → (xs : List A) → AllByRecursion P xs
 everywhere P h [] = tt
 everywhere P h (x ∷ xs) = (h x, everywhere P h xs)
 
 -- a sum of products by one factor
-sum-within : {A : Type 0} (g c : A → ℕ) (h : ℕ) (xs : List A) → All (λ x. g x ≤ c x * h) xs → sum_by g xs ≤ sum_by c xs * h
+sum-within : {A : Type 0} (g c : A → ℕ) (h : ℕ) (xs : List A) → AllByRecursion (λ x. g x ≤ c x * h) xs → sum_by g xs ≤ sum_by c xs * h
 sum-within g c h [] below = omega arith
 sum-within g c h (x ∷ xs) below =
     rw (sum_by-cons g x xs, sum_by-cons c x xs, add-mul (c x) (sum_by c xs) h) (omega (arith, below.0, sum-within g c h xs below.1))

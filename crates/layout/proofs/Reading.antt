@@ -1,7 +1,7 @@
 -- A laid-out row is read back from left to right. Assumes nothing.
 use Rattle.std.proofs.Common.{◌≡◌, ℕ, ◌+◌, Bool, true, List, [], ◌∷◌, ◌++◌, length, Some, None, Option, sym, refl, ap, ◌∙◌, subst, arith}
 use mathlib.Core.List.{head-eq_of_cons-eq, tail-eq_of_cons-eq}
-use Rattle.std.specs.List.{flat_map, AllByRecursion as All}
+use Rattle.std.specs.List.{flat_map, AllByRecursion}
 use Rattle.std.proofs.lemmas.List.{append_assoc}
 use Rattle.plan.specs.declared.kind.FieldKind.TheVariants as field
 use Rattle.plan.specs.Shapes.{Shape, leaf, optional, group, repeated, ◌&◌, Many, as_list, as_map, width}
@@ -55,7 +55,7 @@ module _ (test : ℕ → Value → Bool) (f : Telling) (T : TellsApart test f) w
   begins (s & t) l row F at cs = absurd l
 
   entries : (s : Shape) → ((row other : Row s) → Fits test s row → Fits test s other → Told (items f s) row other)
-      → (rows others : List (Row s)) → length rows ≡ length others → All (Fits test s) rows → All (Fits test s) others → Told (flat_map (items f s)) rows others
+      → (rows others : List (Row s)) → length rows ≡ length others → AllByRecursion (Fits test s) rows → AllByRecursion (Fits test s) others → Told (flat_map (items f s)) rows others
   unfolding cells_from bytes_of
   entries s told [] [] l F G at cs ds bs es e e' = (refl, e, e')
   entries s told [] (q ∷ qs) l F G at cs ds bs es e e' = absurd (omega arith)
