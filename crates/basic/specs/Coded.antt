@@ -1,35 +1,45 @@
--- How numbers are read as cases. Assumes nothing.
-use Rattle.std.specs.Prelude.{◌≡◌, ℕ, ◌<◌, Bool, true, false, ◌&&◌, List, [], ◌∷◌, Some, None, Option, ◌==◌, ◌≢◌, nat_lt, refl}
-use Rattle.std.proofs.Common.{sym, ap, subst, ◌∙◌, ⊎_elim, arith}
-use Rattle.std.proofs.lemmas.Bool.{and_parts, ltb-true, cond-true, cond-false, eqb-true, ne_eqb, cases_Bool}
+-- Each case is read back from its number. Assumes nothing.
+use Rattle.std.specs.Prelude.{◌≡◌, Bool, true, false, Some, None, Option, refl}
 use Rattle.basic.specs.declared.types.ConvertedType.{ConvertedType}
 use Rattle.basic.specs.declared.types.ConvertedType.TheVariants as converted
 use Rattle.basic.specs.declared.types.Repetition.{Repetition}
 use Rattle.basic.specs.declared.types.Repetition.TheVariants.{Required, Optional, Repeated}
 use Rattle.basic.specs.declared.types.PhysicalType.{PhysicalType}
 use Rattle.basic.specs.declared.types.PhysicalType.TheVariants as physical
-use Rattle.basic.specs.Codes.{decoded, annotation_code, annotations, repetition_code, repetitions, physical_code, physical_types, flag_code, flags}
+use Rattle.basic.specs.Codes.{decoded, annotation_code, annotations, converted_code, converted_types, repetition_code, repetitions, physical_code, physical_types, flag_code, flags}
 
--- what is read of a number has that number
-pub decoded-number : {A : Type 0} (f : A → ℕ) (xs : List A) (n : ℕ) (x : A) → decoded f xs n ≡ Some x → f x ≡ n
-decoded-number f [] n x e = absurd (let z : ◌≡◌ {A = ℕ} 0 1 = cc in omega arith)
-decoded-number f (y ∷ ys) n x e =
-    ⊎_elim
-    (λ t. let s : y ≡ x = (let h = sym (cond-true (n == f y) (Some y) (decoded f ys n) t) ∙ e in cc) in ap f (sym s) ∙ sym (eqb-true n (f y) t))
-    (λ t. decoded-number f ys n x (sym (cond-false (n == f y) (Some y) (decoded f ys n) t) ∙ e))
-    (cases_Bool (n == f y))
-
--- a number that no case has is none's
-pub decoded_none : {A : Type 0} (f : A → ℕ) (xs : List A) (n : ℕ) → ((x : A) → f x ≢ n) → decoded f xs n ≡ None
-decoded_none f [] n h = refl
-decoded_none f (y ∷ ys) n h = cond-false (n == f y) _ _ (ne_eqb n (f y) (λ e. h y (sym e))) ∙ decoded_none f ys n h
-
--- each case is read back from its number
+-- each repetition is read back from its code
 pub repetition_back : (x : Repetition) → decoded repetition_code repetitions (repetition_code x) ≡ Some x
 repetition_back Required = refl
 repetition_back Optional = refl
 repetition_back Repeated = refl
 
+-- each converted type is
+pub converted_back : (x : ConvertedType) → decoded converted_code converted_types (converted_code x) ≡ Some x
+converted_back converted.Utf8 = refl
+converted_back converted.Map = refl
+converted_back converted.MapKeyValue = refl
+converted_back converted.List = refl
+converted_back converted.Enum = refl
+converted_back converted.Decimal = refl
+converted_back converted.Date = refl
+converted_back converted.TimeMillis = refl
+converted_back converted.TimeMicros = refl
+converted_back converted.TimestampMillis = refl
+converted_back converted.TimestampMicros = refl
+converted_back converted.Uint8 = refl
+converted_back converted.Uint16 = refl
+converted_back converted.Uint32 = refl
+converted_back converted.Uint64 = refl
+converted_back converted.Int8 = refl
+converted_back converted.Int16 = refl
+converted_back converted.Int32 = refl
+converted_back converted.Int64 = refl
+converted_back converted.Json = refl
+converted_back converted.Bson = refl
+converted_back converted.Interval = refl
+
+-- each annotation is, and so is none
 pub annotation_back : (x : Option ConvertedType) → decoded annotation_code annotations (annotation_code x) ≡ Some x
 annotation_back None = refl
 annotation_back (Some converted.Utf8) = refl
@@ -55,6 +65,7 @@ annotation_back (Some converted.Json) = refl
 annotation_back (Some converted.Bson) = refl
 annotation_back (Some converted.Interval) = refl
 
+-- each physical type is
 pub physical_back : (x : PhysicalType) → decoded physical_code physical_types (physical_code x) ≡ Some x
 physical_back physical.Boolean = refl
 physical_back physical.Int32 = refl
@@ -65,34 +76,7 @@ physical_back physical.Double = refl
 physical_back physical.ByteArray = refl
 physical_back physical.FixedLenByteArray = refl
 
+-- each flag is
 pub flag_back : (x : Bool) → decoded flag_code flags (flag_code x) ≡ Some x
 flag_back false = refl
 flag_back true = refl
-
--- whether the numbers of all cases are below a bound
-abbrev all_below : {A : Type 0} → (A → ℕ) → ℕ → List A → Bool
-all_below f bound [] = true
-all_below f bound (x ∷ xs) = nat_lt (f x) bound && all_below f bound xs
-
--- then so is the number of what is read
-decoded_below : {A : Type 0} (f : A → ℕ) (bound : ℕ) (xs : List A) (n : ℕ) (x : A) → all_below f bound xs ≡ true → decoded f xs n ≡ Some x → f x < bound
-decoded_below f bound [] n x all e = absurd (let z : ◌≡◌ {A = ℕ} 0 1 = cc in omega arith)
-decoded_below f bound (y ∷ ys) n x all e =
-    let both = and_parts (nat_lt (f y) bound) (all_below f bound ys) all in
-    ⊎_elim
-    (λ t. let same : y ≡ x = (let h = sym (cond-true (n == f y) (Some y) (decoded f ys n) t) ∙ e in cc) in subst (λ k. f k < bound) same (ltb-true (f y) bound both.0))
-    (λ t. decoded_below f bound ys n x both.1 (sym (cond-false (n == f y) (Some y) (decoded f ys n) t) ∙ e))
-    (cases_Bool (n == f y))
-
--- every number is small
-pub repetition-small : (x : Repetition) → repetition_code x < 256
-repetition-small x = decoded_below repetition_code 256 repetitions (repetition_code x) x refl (repetition_back x)
-
-pub physical_small : (x : PhysicalType) → physical_code x < 256
-physical_small x = decoded_below physical_code 256 physical_types (physical_code x) x refl (physical_back x)
-
-pub annotation_small : (x : Option ConvertedType) → annotation_code x < 256
-annotation_small x = decoded_below annotation_code 256 annotations (annotation_code x) x refl (annotation_back x)
-
-pub flag_small : (x : Bool) → flag_code x < 256
-flag_small x = decoded_below flag_code 256 flags (flag_code x) x refl (flag_back x)

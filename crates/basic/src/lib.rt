@@ -3,8 +3,7 @@
 
 ghost use Rattle.std.specs.Prelude.{◌≡◌, ℕ, List, Some};
 ghost use Rattle.basic.specs.Codes.{decoded, Stands, repetition_code, repetitions, physical_code, physical_types, converted_code, converted_types, annotation_code, annotations, flag_code, flags};
-ghost use Rattle.std.proofs.Common.{rules};
-ghost use Rattle.basic.specs.Coded.{annotation_back};
+ghost use Rattle.basic.specs.Coded.{repetition_back, physical_back, converted_back, annotation_back, flag_back};
 
 mod names;
 mod types;
@@ -34,7 +33,7 @@ impl Code for Repetition {
 
     ghost cases = { repetitions };
 
-    ghost reads_back = { Prim.search rules };
+    ghost reads_back = { repetition_back };
 
     fn code(self) -> u8 {
         self as u8
@@ -55,7 +54,7 @@ impl Code for PhysicalType {
 
     ghost cases = { physical_types };
 
-    ghost reads_back = { Prim.search rules };
+    ghost reads_back = { physical_back };
 
     fn code(self) -> u8 {
         self as u8
@@ -81,7 +80,7 @@ impl Code for ConvertedType {
 
     ghost cases = { converted_types };
 
-    ghost reads_back = { Prim.search rules };
+    ghost reads_back = { converted_back };
 
     fn code(self) -> u8 {
         self as u8
@@ -146,7 +145,7 @@ impl Code for bool {
 
     ghost cases = { flags };
 
-    ghost reads_back = { Prim.search rules };
+    ghost reads_back = { flag_back };
 
     fn code(self) -> u8 {
         self as u8

@@ -1,10 +1,9 @@
 // The three kinds of values.
-ghost use Rattle.std.specs.Prelude.{◌≡◌, false, Some, None};
+ghost use Rattle.std.specs.Prelude.{◌≡◌, false, Some, None, refl};
 ghost use Rattle.plan.specs.declared.kind.ValueKind.{ValueKind};
 ghost use Rattle.value.specs.declared.types.Value.{Value};
 ghost use Rattle.column.specs.Meaning.{coming_of, kind_of, same_kind, word_kind, word_value, int96_kind, int96_value, run_kind, run_value};
 ghost use Rattle.column.specs.Delivery.{Delivered, Chosen, batch_memory, zero_of};
-ghost use Rattle.std.proofs.Common.{rules};
 
 use crate::batch::Batch;
 use crate::fault::SourceFault;
@@ -52,7 +51,7 @@ impl ColumnValue for u64 {
 
     ghost val = { word_value };
 
-    ghost of_its_kind = { Prim.search rules };
+    ghost of_its_kind = { λ v. refl };
 
     fn value_kind() -> ValueKind {
         ValueKind::Word
@@ -94,7 +93,7 @@ impl ColumnValue for Int96 {
 
     ghost val = { int96_value };
 
-    ghost of_its_kind = { Prim.search rules };
+    ghost of_its_kind = { λ v. refl };
 
     fn value_kind() -> ValueKind {
         ValueKind::Int96
@@ -140,7 +139,7 @@ impl ColumnValue for Run {
 
     ghost val = { run_value };
 
-    ghost of_its_kind = { Prim.search rules };
+    ghost of_its_kind = { λ v. refl };
 
     fn value_kind() -> ValueKind {
         ValueKind::Run

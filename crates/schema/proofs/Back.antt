@@ -3,7 +3,8 @@ use Rattle.std.proofs.Common.{◌≡◌, ℕ, ◌^◌, ◌<◌, Bool, List, [], 
 use Rattle.std.proofs.lemmas.List.{take_at, drop_at}
 use Rattle.std.proofs.lemmas.Bool.{lt-ltb}
 use Rattle.basic.specs.Codes.{decoded, repetition_code, repetitions, physical_code, physical_types, annotation_code, annotations, flag_code, flags}
-use Rattle.basic.specs.Coded.{repetition_back, repetition-small, physical_back, physical_small, annotation_back, annotation_small, flag_back, flag_small}
+use Rattle.basic.specs.Coded.{repetition_back, physical_back, annotation_back, flag_back}
+use Rattle.basic.proofs.Coded.{repetition-small, physical_small, annotation_small, flag_small}
 use Rattle.utf8.specs.Unicode.{well_formed}
 use Rattle.varint.specs.Parsed.{got}
 use Rattle.varint.specs.Number.{encoding, number_in, groups_in}

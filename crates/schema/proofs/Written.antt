@@ -4,7 +4,7 @@ use Rattle.std.specs.List.{AllByRecursion}
 use Rattle.std.proofs.lemmas.List.{length-take-le, take-append-drop}
 use Rattle.std.proofs.lemmas.Bool.{cond_both, ltb-true, ltb-false}
 use Rattle.basic.specs.Codes.{decoded}
-use Rattle.basic.specs.Coded.{decoded-number}
+use Rattle.basic.proofs.Coded.{decoded-number}
 use Rattle.utf8.specs.Unicode.{well_formed}
 use Rattle.varint.specs.declared.NumberError.{NumberError}
 use Rattle.varint.specs.Parsed.{Parsed, got, refused}
