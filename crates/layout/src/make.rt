@@ -2,7 +2,7 @@
 ghost use Rattle.std.specs.Prelude.{◌≡◌, ℕ, ◌+◌, ◌<◌, true, false, List, [], length as length_of, MatchOption};
 ghost use Rattle.value.specs.Leaves.{shows_bytes};
 ghost use Rattle.value.specs.Values.{int96};
-ghost use Rattle.layout.specs.Cells.{cell_number, has_bytes, item, counted as countedBy, worded, written, cell_at, count_cell, word_cell, bytes_cell, zero_cell, Names};
+ghost use Rattle.layout.specs.Cells.{cell_number, has_bytes, item, counted as counted_by, worded, written, cell_at, count_cell, word_cell, bytes_cell, zero_cell, Names};
 ghost use Rattle.layout.specs.Rows.{stored};
 ghost use Rattle.layout.specs.Laws.{LayoutDetermines, StoredTells, StoredDetermines, Bounded, ShapesOfPlans, CellsNameBytes};
 ghost use Rattle.layout.specs.Examples.{LayoutExamples};
@@ -44,7 +44,7 @@ impl Cell {
     /// A null, or a group, a list or a map with its count of fields, elements or pairs.
     pub fn counted(node: u32, kind: FieldKind, count: u32) -> Cell
         ensures tells { result ≡ count_cell kind node count }
-        ensures laid { shows_bytes kind ≡ false → (at : ℕ) → result ≡ cell_at at (item node (countedBy kind count)) }
+        ensures laid { shows_bytes kind ≡ false → (at : ℕ) → result ≡ cell_at at (item node (counted_by kind count)) }
         ensures layout_determines { LayoutDetermines }
         ensures shapes_of_plans { ShapesOfPlans }
     {

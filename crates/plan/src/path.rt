@@ -1,6 +1,6 @@
 // The path so far, and the guard that takes it back.
 ghost use Rattle.std.specs.Prelude.{◌≡◌, ◌<◌, ◌≤◌, [], ◌∷◌, ◌++◌, length};
-ghost use Rattle.plan.specs.Links.{entered as enteredPath, parts_of};
+ghost use Rattle.plan.specs.Links.{entered as entered_path, parts_of};
 
 use basic::Repetition;
 use schema::{Header, MAX_LEVELS, Name};
@@ -48,7 +48,7 @@ impl Path {
     /// Makes the path one node longer, until the guard ends.
     pub(crate) fn enter(&mut self, header: Header) -> Entered<'_>
         requires { self.old.len < 16 }
-        ensures starts { result.path.now ≡ enteredPath self.old header }
+        ensures starts { result.path.now ≡ entered_path self.old header }
         ensures one_longer { parts_of result.path.now ≡ parts_of self.old ++ header ∷ [] }
         ensures keeps { result.old ≡ self.old.len }
         ensures lends { result.path.ghost_name ≡ self.entry.ghost_name }

@@ -1,7 +1,7 @@
 // The shape of rows, formed from a read schema.
 ghost use Rattle.std.specs.Prelude.{◌≡◌, ℕ, ◌+◌, ◌*◌, ◌<◌, ◌≤◌, List, [], length, None, Option};
 ghost use Rattle.schema.specs.Answering.{Holds};
-ghost use Rattle.schema.specs.Schemas.{Tree, Node, Nodes, more as moreNodes, count as fields_of};
+ghost use Rattle.schema.specs.Schemas.{Tree, Node, Nodes, more as more_nodes, count as fields_of};
 ghost use Rattle.schema.specs.Image.{size, sizes, leaves as leaves_in, leaves_of};
 ghost use Rattle.plan.specs.Forms.{shape_in, form_in, body_by, group_by, fields_by, list_by, element_by, map_by, rule_broken, list_rule, map_rule};
 ghost use Rattle.plan.specs.Standing.{Stands, StandAll, Shows, heading_of, two_fields};
@@ -198,7 +198,7 @@ impl ShapeTable {
         levels: usize,
     ) -> Result<usize, BuildRefusal>
         requires { Roomy self.old at }
-        ensures formed { (x : Node) (xs : Nodes) → count ≡ 1 + fields_of xs → StandAll read.now at (moreNodes x xs) → Appended self.old self.new at (size x + sizes xs) (leaves_in x + leaves_of xs) result (fields_by (form_in levels) at self.old.leaves x xs) }
+        ensures formed { (x : Node) (xs : Nodes) → count ≡ 1 + fields_of xs → StandAll read.now at (more_nodes x xs) → Appended self.old self.new at (size x + sizes xs) (leaves_in x + leaves_of xs) result (fields_by (form_in levels) at self.old.leaves x xs) }
         ensures roomy { RoomyAfter self.new at result }
     {
         let next = self.node(read, at, levels)?;

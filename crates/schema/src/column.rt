@@ -1,6 +1,6 @@
 // The columns of a schema: its leaves, each with its path and its levels.
 ghost use Rattle.std.specs.Prelude.{◌≡◌, ℕ, ◌+◌, ◌<◌, ◌≤◌, List, [], ◌∷◌, ◌++◌, length};
-ghost use Rattle.schema.specs.Columns.{parts, made, max_definition, max_repetition, repetition_of, defines as definesLevel, repeats as repeatsLevel};
+ghost use Rattle.schema.specs.Columns.{parts, made, max_definition, max_repetition, repetition_of, defines as defines_level, repeats as repeats_level};
 
 use crate::entry::{Header, Leaf, Name};
 use crate::limits::MAX_LEVELS;
@@ -102,7 +102,7 @@ impl ColumnPath {
 
 /// Whether a node adds a definition level to its path.
 fn defines(repetition: Repetition) -> bool
-    ensures { result ≡ definesLevel repetition }
+    ensures { result ≡ defines_level repetition }
 {
     match repetition {
         Repetition::Required => false,
@@ -112,7 +112,7 @@ fn defines(repetition: Repetition) -> bool
 
 /// Whether a node adds a repetition level to its path.
 fn repeats(repetition: Repetition) -> bool
-    ensures { result ≡ repeatsLevel repetition }
+    ensures { result ≡ repeats_level repetition }
 {
     match repetition {
         Repetition::Repeated => true,

@@ -2,7 +2,7 @@
 ghost use Rattle.std.specs.Prelude.{◌≡◌, ℕ, ◌+◌, ◌-◌, ◌*◌, ◌<◌, ◌≤◌, List, [], ◌∷◌, ◌++◌, length, drop};
 ghost use Rattle.schema.specs.Reading.{node_in, fields_by, leaf_body, fields_body};
 ghost use Rattle.schema.specs.Places.{headed};
-ghost use Rattle.schema.specs.Schemas.{leaf as leafNode, group as groupNode};
+ghost use Rattle.schema.specs.Schemas.{leaf as leaf_node, group as group_node};
 ghost use Rattle.schema.specs.Columns.{column_at, columns_all, columns_at};
 ghost use Rattle.schema.specs.Tables.{Added, place, rows, rows_of, node_columns, trail, pushed_node, pushed_column, rows_held, columns_held};
 
@@ -97,7 +97,7 @@ impl Table {
         path: ColumnPath,
     ) -> Result<usize, ImageRefusal>
         requires { self.old.nodes < 256 }
-        ensures { Added (λ l. rows (leafNode (headed bytes.now header) l)) (λ l. column_at (trail bytes.now path) l ∷ []) bytes.now self.old self.new result (leaf_body (place bytes.now at self.old) (drop at bytes.now)) }
+        ensures { Added (λ l. rows (leaf_node (headed bytes.now header) l)) (λ l. column_at (trail bytes.now path) l ∷ []) bytes.now self.old self.new result (leaf_body (place bytes.now at self.old) (drop at bytes.now)) }
     {
         if self.leaves >= MAX_LEAVES {
             return Err(ImageRefusal::Limit);
@@ -121,7 +121,7 @@ impl Table {
         path: ColumnPath,
     ) -> Result<usize, ImageRefusal>
         requires { self.old.nodes < 256 }
-        ensures { Added (λ xs. rows (groupNode (headed bytes.now header) xs)) (columns_all (trail bytes.now path)) bytes.now self.old self.new result (fields_body (node_in (16 - path.len)) (place bytes.now at self.old) (drop at bytes.now)) }
+        ensures { Added (λ xs. rows (group_node (headed bytes.now header) xs)) (columns_all (trail bytes.now path)) bytes.now self.old self.new result (fields_body (node_in (16 - path.len)) (place bytes.now at self.old) (drop at bytes.now)) }
     {
         let (count, at) = number(bytes, at)?;
         self.push_node(NodeEntry {
