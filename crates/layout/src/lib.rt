@@ -1,4 +1,6 @@
 //! Rows laid out in cells and bytes.
+#![tactic(auto)]
+
 mod cell;
 mod make;
 
