@@ -38,8 +38,14 @@ mod tests {
     #[test]
     fn parts_of_the_bytes(rt: HostRuntime) {
         let str = CellKind::Shown(FieldKind::Str);
-        assert_eq!(rt; Cell::bytes(1, str, 1, 2).part(b"abc"), Some(b"bc"));
-        assert_eq!(rt; Cell::bytes(1, str, 3, 0).part(b"abc"), Some(b""));
+        assert_eq!(rt;
+            Cell::bytes(1, str, 1, 2).part(b"abc"),
+            Some(b"bc".as_slice())
+        );
+        assert_eq!(rt;
+            Cell::bytes(1, str, 3, 0).part(b"abc"),
+            Some(b"".as_slice())
+        );
         assert_eq!(rt; Cell::bytes(1, str, 2, 2).part(b"abc"), None);
         assert_eq!(rt; Cell::bytes(1, str, u64::MAX, 1).part(b"abc"), None);
     }
