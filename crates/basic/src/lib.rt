@@ -2,6 +2,7 @@
 #![tactic(auto)]
 
 ghost use Rattle.std.specs.Prelude.{◌≡◌, ℕ, List, Some};
+ghost use Rattle.std.specs.List.{slice_get};
 ghost use Rattle.basic.specs.Codes.{decoded, Stands, repetition_code, repetitions, physical_code, physical_types, converted_code, converted_types, annotation_code, annotations, flag_code, flags};
 ghost use Rattle.basic.specs.Coded.{repetition_back, physical_back, converted_back, annotation_back, flag_back};
 
@@ -17,6 +18,8 @@ pub trait Code: Sized {
     ghost cases: { List Self };
 
     /// The number of this case.
+    // Here and below each impl has a body of its own: the cast from an enum, and its list of cases, stand in no trait that
+    // one text for all could use.
     fn code(self) -> u8
         ensures { result ≡ number self };
 
@@ -27,6 +30,20 @@ pub trait Code: Sized {
 
     ghost reads_back: { (x : Self) → decoded number cases (number x) ≡ Some x };
 }
+
+/// The case that stands in a list at the place of this number.
+fn case_at<C: Copy>(cases: &[C], code: u64) -> Option<C>
+    ensures { result ≡ slice_get cases.now code }
+{
+    cases.get(code as usize).copied()
+}
+
+/// The repetitions, in the order of their numbers.
+static REPETITIONS: [Repetition; 3] = [
+    Repetition::Required,
+    Repetition::Optional,
+    Repetition::Repeated,
+];
 
 impl Code for Repetition {
     ghost number = { repetition_code };
@@ -40,14 +57,21 @@ impl Code for Repetition {
     }
 
     fn from_code(code: u64) -> Option<Repetition> {
-        match code {
-            0 => Some(Repetition::Required),
-            1 => Some(Repetition::Optional),
-            2 => Some(Repetition::Repeated),
-            _ => None,
-        }
+        case_at(&REPETITIONS, code)
     }
 }
+
+/// The physical types, in the order of their numbers.
+static PHYSICAL_TYPES: [PhysicalType; 8] = [
+    PhysicalType::Boolean,
+    PhysicalType::Int32,
+    PhysicalType::Int64,
+    PhysicalType::Int96,
+    PhysicalType::Float,
+    PhysicalType::Double,
+    PhysicalType::ByteArray,
+    PhysicalType::FixedLenByteArray,
+];
 
 impl Code for PhysicalType {
     ghost number = { physical_code };
@@ -61,19 +85,35 @@ impl Code for PhysicalType {
     }
 
     fn from_code(code: u64) -> Option<PhysicalType> {
-        match code {
-            0 => Some(PhysicalType::Boolean),
-            1 => Some(PhysicalType::Int32),
-            2 => Some(PhysicalType::Int64),
-            3 => Some(PhysicalType::Int96),
-            4 => Some(PhysicalType::Float),
-            5 => Some(PhysicalType::Double),
-            6 => Some(PhysicalType::ByteArray),
-            7 => Some(PhysicalType::FixedLenByteArray),
-            _ => None,
-        }
+        case_at(&PHYSICAL_TYPES, code)
     }
 }
+
+/// The converted types, in the order of their numbers.
+static CONVERTED_TYPES: [ConvertedType; 22] = [
+    ConvertedType::Utf8,
+    ConvertedType::Map,
+    ConvertedType::MapKeyValue,
+    ConvertedType::List,
+    ConvertedType::Enum,
+    ConvertedType::Decimal,
+    ConvertedType::Date,
+    ConvertedType::TimeMillis,
+    ConvertedType::TimeMicros,
+    ConvertedType::TimestampMillis,
+    ConvertedType::TimestampMicros,
+    ConvertedType::Uint8,
+    ConvertedType::Uint16,
+    ConvertedType::Uint32,
+    ConvertedType::Uint64,
+    ConvertedType::Int8,
+    ConvertedType::Int16,
+    ConvertedType::Int32,
+    ConvertedType::Int64,
+    ConvertedType::Json,
+    ConvertedType::Bson,
+    ConvertedType::Interval,
+];
 
 impl Code for ConvertedType {
     ghost number = { converted_code };
@@ -87,31 +127,7 @@ impl Code for ConvertedType {
     }
 
     fn from_code(code: u64) -> Option<ConvertedType> {
-        match code {
-            0 => Some(ConvertedType::Utf8),
-            1 => Some(ConvertedType::Map),
-            2 => Some(ConvertedType::MapKeyValue),
-            3 => Some(ConvertedType::List),
-            4 => Some(ConvertedType::Enum),
-            5 => Some(ConvertedType::Decimal),
-            6 => Some(ConvertedType::Date),
-            7 => Some(ConvertedType::TimeMillis),
-            8 => Some(ConvertedType::TimeMicros),
-            9 => Some(ConvertedType::TimestampMillis),
-            10 => Some(ConvertedType::TimestampMicros),
-            11 => Some(ConvertedType::Uint8),
-            12 => Some(ConvertedType::Uint16),
-            13 => Some(ConvertedType::Uint32),
-            14 => Some(ConvertedType::Uint64),
-            15 => Some(ConvertedType::Int8),
-            16 => Some(ConvertedType::Int16),
-            17 => Some(ConvertedType::Int32),
-            18 => Some(ConvertedType::Int64),
-            19 => Some(ConvertedType::Json),
-            20 => Some(ConvertedType::Bson),
-            21 => Some(ConvertedType::Interval),
-            _ => None,
-        }
+        case_at(&CONVERTED_TYPES, code)
     }
 }
 
@@ -123,19 +139,13 @@ impl Code for Option<ConvertedType> {
     ghost reads_back = { annotation_back };
 
     fn code(self) -> u8 {
-        match self {
-            None => 0,
-            Some(converted) => converted as u8 + 1,
-        }
+        self.map_or(0, |converted| converted as u8 + 1)
     }
 
     fn from_code(code: u64) -> Option<Option<ConvertedType>> {
-        if code == 0 {
-            return Some(None);
-        }
-        match <ConvertedType as Code>::from_code(code - 1) {
-            Some(converted) => Some(Some(converted)),
-            None => None,
+        match code.checked_sub(1) {
+            Some(below) => ConvertedType::from_code(below).map(Some),
+            None => Some(None),
         }
     }
 }
@@ -152,10 +162,6 @@ impl Code for bool {
     }
 
     fn from_code(code: u64) -> Option<bool> {
-        match code {
-            0 => Some(false),
-            1 => Some(true),
-            _ => None,
-        }
+        case_at(&[false, true], code)
     }
 }

@@ -1,16 +1,18 @@
 // The cases.
 
 /// How often a field may stand in the value above it.
-#[derive(Clone, Copy, Debug, PartialEq, Eq)]
+#[derive(Clone, Copy, Debug, Default, PartialEq, Eq)]
 pub enum Repetition {
+    #[default]
     Required,
     Optional,
     Repeated,
 }
 
 /// How a leaf's values are stored.
-#[derive(Clone, Copy, Debug, PartialEq, Eq)]
+#[derive(Clone, Copy, Debug, Default, PartialEq, Eq)]
 pub enum PhysicalType {
+    #[default]
     Boolean,
     Int32,
     Int64,

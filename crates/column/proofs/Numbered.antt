@@ -1,7 +1,7 @@
 -- A source of columns with given shapes. Assumes nothing.
 use Rattle.std.proofs.Common.{◌≡◌, ℕ, ◌<◌, ◌≤◌, cond, ◌≢◌, List, length, get_or, drop, set, Some, None, sym, ap, ◌∙◌, ⊎_elim, arith}
 use Rattle.std.proofs.lemmas.List.FromFn.{length-map-range_with_len, get_or-map-range_with_len, fill_by_all}
-use Rattle.std.proofs.lemmas.List.{get_or_past, length-set, get_or-set_same, get_or-set_other}
+use Rattle.std.proofs.lemmas.List.{length-set, get_or-set_same, get_or-set_other}
 use Rattle.std.proofs.lemmas.Bool.{lt-ltb, le-ltb, cases_lt, cases_eq}
 use Rattle.column.specs.declared.shape.ColumnShape.{ColumnShape}
 use Rattle.column.specs.Meaning.{Triplet, Ending, Column, Meaning, no_column, column_of, told, without, after}
@@ -14,10 +14,6 @@ module _ (xs : List ColumnShape) (T : ℕ → List Triplet) (e : Ending) (pool :
   -- a column that is there
   pub column_by_lem : (c : ℕ) → c < length xs → column_of (meaning_by xs T e pool) c ≡ column_by xs T e c
   column_by_lem c h = get_or-map-range_with_len (column_by xs T e) 0 (length xs) c c no_column h (omega arith)
-
-  -- a column that is not there
-  pub column_past : (c : ℕ) → length xs ≤ c → column_of (meaning_by xs T e pool) c ≡ no_column
-  column_past c h = get_or_past (meaning_by xs T e pool).columns c no_column (omega (arith, length_by))
 
   pub told_by : (c : ℕ) → told (meaning_by xs T e pool) c ≡ shape_in xs c
   told_by c =

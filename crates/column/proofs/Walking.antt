@@ -1,7 +1,9 @@
 -- The walk of a delivery through a list of entries. Assumes nothing.
-use Rattle.std.proofs.Common.{◌≡◌, ℕ, suc, ◌+◌, ◌<◌, ◌≤◌, Bool, cond, List, [], ◌∷◌, ◌++◌, map, length, get_or, take, drop, set, Some, None, filter, Option, sym, refl, ap, ◌∙◌, subst, arith}
-use Rattle.std.proofs.lemmas.List.{at_drop_more, at_drop_all, append-nil, append_assoc, length-drop, length-map, length_push, length-take-le, drop_more, drop-drop, drop-set-lt, take_more, take_more_set, map_push, set_at}
-use Rattle.std.proofs.lemmas.Bool.{eq-eqb, ne_eqb}
+use Rattle.std.proofs.Common.{◌≡◌, ℕ, suc, ◌+◌, ◌<◌, ◌≤◌, Bool, true, false, cond, not, List, [], ◌∷◌, ◌++◌, map, length, get_or, take, drop, set, Some, None, filter, Option, sym, refl, ap, ◌∙◌, subst, ⊎_elim, arith}
+use Rattle.std.proofs.lemmas.List.{at_drop_more, at_drop_all, append-nil, append_assoc, length-drop, length-map, length_push, length-take-le, drop_more, drop-drop, get_or-drop, drop-set-lt, take_more, take_more_set, map_push, set_at}
+use Rattle.std.proofs.lemmas.List.Quantifiers.{position-Some}
+use Rattle.std.proofs.lemmas.Bool.{eq-eqb, eqb-true, lt-ltb, le-ltb, cases_lt, cases_Bool}
+use Rattle.std.specs.List.{position, position_or_len}
 use Rattle.value.specs.declared.types.Value.{Value}
 use Rattle.column.specs.declared.entry.Entry.{Entry}
 use Rattle.column.specs.Meaning.{Triplet}
@@ -23,9 +25,56 @@ module _ (c : ℕ) (es : List Entry) (p : ℕ) (within : p < length es) where
   pub its_own : read.column ≡ c → triplets_from c es p ≡ triplet_of read ∷ triplets_from c es (p + 1)
   its_own h = opened ∙ ap left_of (eq-eqb read.column c h)
 
-  -- an entry of another
-  pub others : (read.column ≡ c → ⊥) → triplets_from c es p ≡ triplets_from c es (p + 1)
-  others h = opened ∙ ap left_of (ne_eqb read.column c h)
+-- the entries before the first one of the column have no triplets of it
+skipped : (c : ℕ) (es : List Entry) → triplets_of c es ≡ triplets_of c (drop (position_or_len (of_column c) es) es)
+skipped c [] = refl
+skipped c (e ∷ es) =
+    let n = position_or_len (of_column c) es in
+    let one-more : suc n ≡ 1 + n = omega arith in
+    ⊎_elim
+    (λ (q : of_column c e ≡ true). ap (λ b. triplets_of c (drop (cond (not b) (1 + n) 0) (e ∷ es))) (sym q))
+    (λ (q : of_column c e ≡ false).
+    ap (λ b. map triplet_of (cond b (e ∷ filter (of_column c) es) (filter (of_column c) es))) q
+    ∙ skipped c es
+    ∙ ap (λ i. triplets_of c (drop i (e ∷ es))) one-more
+    ∙ ap (λ b. triplets_of c (drop (cond (not b) (1 + n) 0) (e ∷ es))) (sym q))
+    (cases_Bool (of_column c e))
+
+-- where the first entry of the column is, if there is one
+position-is : (p : Entry → Bool) (es : List Entry) (i : ℕ) → position p es ≡ Some i → position_or_len p es ≡ i
+position-is p es i h =
+    let n = position_or_len p es in
+    ⊎_elim
+    (λ (k : n < length es). let e : Some n ≡ Some i = sym (ap (λ b. cond b (Some n) None) (lt-ltb n (length es) k)) ∙ h in let z : n ≡ i = cc in z)
+    (λ (k : length es ≤ n). let e : None ≡ Some i = sym (ap (λ b. cond b (Some n) None) (le-ltb n (length es) k)) ∙ h in let z : ◌≡◌ {A = ℕ} 0 1 = cc in absurd (omega arith))
+    (cases_lt n (length es))
+
+position-none : (p : Entry → Bool) (es : List Entry) → position p es ≡ None → length es ≤ position_or_len p es
+position-none p es h =
+    let n = position_or_len p es in
+    ⊎_elim
+    (λ (k : n < length es). let e : Some n ≡ None = sym (ap (λ b. cond b (Some n) None) (lt-ltb n (length es) k)) ∙ h in let z : ◌≡◌ {A = ℕ} 0 1 = cc in absurd (omega arith))
+    (λ (k : length es ≤ n). k)
+    (cases_lt n (length es))
+
+module _ (c : ℕ) (es : List Entry) (p : ℕ) where
+  pub sought : (i : ℕ) → position (of_column c) (drop p es) ≡ Some i → Reached es c p (p + i)
+  sought i h =
+      let found = position-Some (of_column c) (drop p es) i no_entry h in
+      let within : p + i < length es = omega (arith, found.0, length-drop p es) in
+      let its : (get_or es (p + i) no_entry).column ≡ c = ap (λ (e : Entry). e.column) (sym (get_or-drop p es i no_entry)) ∙ eqb-true (get_or (drop p es) i no_entry).column c found.1 in
+      record {
+        within = within;
+        its = its;
+        next =
+            skipped c (drop p es)
+            ∙ ap (λ n. triplets_of c (drop n (drop p es))) (position-is (of_column c) (drop p es) i h)
+            ∙ ap (triplets_of c) (drop-drop i p es)
+            ∙ its_own c es (p + i) within its;
+      }
+
+  pub sought-none : position (of_column c) (drop p es) ≡ None → triplets_from c es p ≡ []
+  sought-none h = skipped c (drop p es) ∙ at_drop_all (triplets_of c) (drop p es) (position_or_len (of_column c) (drop p es)) (position-none (of_column c) (drop p es) h)
 
 -- no entry is left
 pub none_left : (c : ℕ) (es : List Entry) (p : ℕ) → length es ≤ p → triplets_from c es p ≡ []

@@ -18,7 +18,7 @@ plan_shapes p = map shape_of (take 64 (listed p.columns))
 
 -- the columns of a table
 abbrev pub shapes_in : ColumnTable → List ColumnShape
-shapes_in t = take t.len t.shapes
+shapes_in t = t.shapes.items
 
 -- the shape with a number, at a number that has one
 abbrev pub shape_at : List ColumnShape → ℕ → ColumnShape

@@ -1,6 +1,6 @@
 // What sources do alike: try a request, and copy from the pool.
 ghost use Rattle.std.specs.Prelude.{◌≡◌};
-ghost use Rattle.column.specs.Meaning.{same_kind, kind_of, run_lies};
+ghost use Rattle.column.specs.Meaning.{kind_of, run_lies};
 ghost use Rattle.column.specs.Delivery.{askable, CopiedRun};
 
 use crate::fault::{MISUSE, SourceFault};
@@ -9,19 +9,8 @@ use crate::shape::ColumnShape;
 use plan::ValueKind;
 use value::{Run, Value};
 
-/// Whether two kinds are the same.
-pub(crate) fn same_kind(a: ValueKind, b: ValueKind) -> bool
-    ensures { result ≡ same_kind a b }
-{
-    matches!(
-        (a, b),
-        (ValueKind::Word, ValueKind::Word)
-            | (ValueKind::Int96, ValueKind::Int96)
-            | (ValueKind::Run, ValueKind::Run)
-    )
-}
-
 /// The kind of a value.
+// A function: an `impl` is barred here, where both types are other crates', and would be one more public promise there.
 pub(crate) fn kind_of(value: Value) -> ValueKind
     ensures { result ≡ kind_of value }
 {
@@ -34,6 +23,7 @@ pub(crate) fn kind_of(value: Value) -> ValueKind
 
 /// Whether up to k triplets of a kind may be asked of a column with a shape, given room for so many
 /// repetitions, definitions and values.
+// The lengths alone: a struct of three numbers would be made for this one call, from three slices.
 pub fn is_askable(
     shape: Option<ColumnShape>,
     kind: ValueKind,
@@ -47,7 +37,7 @@ pub fn is_askable(
     let Some(shape) = shape else {
         return false;
     };
-    same_kind(shape.kind, kind)
+    shape.kind == kind
         && 0 < k
         && k <= MAX_BATCH
         && k <= repetitions

@@ -22,7 +22,7 @@ pub struct EntryList<'a> {
     pool: &'a [u8],
     // What ends every column, if it is no clean end.
     fault: Option<SourceFault>,
-    // For each column, the entries before this have been passed.
+    // For each column, the entries before this have been passed. Beside the table, which any source can have as it is.
     cursors: [usize; MAX_COLUMNS],
     ghost good: { all_good (shapes_in table) (length pool.now) entries.now ≡ true },
     ghost few: { length entries.now < 2147483648 },

@@ -6,7 +6,7 @@ ghost use Rattle.column.specs.Faults.{fault_number};
 #[derive(Clone, Copy, Debug, PartialEq, Eq)]
 pub enum SourceFaultKind {
     /// More entries, or bytes of memory, than 2^31 - 1.
-    TooLarge,
+    TooLarge = 1,
     /// The bytes end inside.
     Truncated,
     /// A number is in bad form or out of range.
@@ -39,14 +39,6 @@ impl SourceFaultKind {
     pub fn number(self) -> u8
         ensures { result ≡ fault_number self }
     {
-        match self {
-            SourceFaultKind::TooLarge => 1,
-            SourceFaultKind::Truncated => 2,
-            SourceFaultKind::BadNumber => 3,
-            SourceFaultKind::BadColumn => 4,
-            SourceFaultKind::BadValues => 5,
-            SourceFaultKind::BadRun => 6,
-            SourceFaultKind::Misuse => 7,
-        }
+        self as u8
     }
 }

@@ -1,11 +1,12 @@
 // What delivers the triplets of columns.
 ghost use Rattle.std.specs.Prelude.{◌≡◌};
-ghost use Rattle.column.specs.Meaning.{Meaning, Sound, told, coming_of, word_kind, word_value, int96_kind, int96_value, run_kind, run_value};
+ghost use Rattle.column.specs.Meaning.{Meaning, Sound, told, coming_of};
 ghost use Rattle.column.specs.Delivery.{Delivered, Chosen, slices, CopiedRun};
 
 use crate::fault::SourceFault;
 use crate::shape::ColumnShape;
-use value::{Int96, Run};
+use crate::values::ColumnValue;
+use value::Run;
 
 /// Delivers the triplets of columns, some at a time, and holds a pool of bytes for the values that are runs.
 ///
@@ -20,41 +21,19 @@ pub trait BatchSource {
     fn column(&self, column: usize) -> Option<ColumnShape>
         ensures tells { result ≡ told (means self.now) column };
 
-    /// Hands over the next triplets of a column of words, up to k: the levels, and the values of those at the
-    /// maximal definition. Answers how many levels and how many values; none and none at the end.
-    fn deliver_words(
+    /// Hands over the next triplets of a column, up to k: the levels, and the values of those at the maximal
+    /// definition. Answers how many levels and how many values; none and none at the end.
+    // A column, a number and three slices: a struct of them would need a clause for each slice, in every contract, that
+    // it still is the same memory.
+    fn deliver<V: ColumnValue>(
         &mut self,
         column: usize,
         k: usize,
         repetitions: &mut [u8],
         definitions: &mut [u8],
-        values: &mut [u64],
+        values: &mut [V],
     ) -> Result<(usize, usize), SourceFault>
-        ensures delivers { Delivered word_value word_kind (means self.old) (means self.new) column k (slices repetitions.old definitions.old values.old) (slices repetitions.new definitions.new values.new) result }
-        ensures one_to_k { Chosen (coming_of (means self.old) column) k result };
-
-    /// The same of a column of `Int96`.
-    fn deliver_int96s(
-        &mut self,
-        column: usize,
-        k: usize,
-        repetitions: &mut [u8],
-        definitions: &mut [u8],
-        values: &mut [Int96],
-    ) -> Result<(usize, usize), SourceFault>
-        ensures delivers { Delivered int96_value int96_kind (means self.old) (means self.new) column k (slices repetitions.old definitions.old values.old) (slices repetitions.new definitions.new values.new) result }
-        ensures one_to_k { Chosen (coming_of (means self.old) column) k result };
-
-    /// The same of a column of runs.
-    fn deliver_runs(
-        &mut self,
-        column: usize,
-        k: usize,
-        repetitions: &mut [u8],
-        definitions: &mut [u8],
-        values: &mut [Run],
-    ) -> Result<(usize, usize), SourceFault>
-        ensures delivers { Delivered run_value run_kind (means self.old) (means self.new) column k (slices repetitions.old definitions.old values.old) (slices repetitions.new definitions.new values.new) result }
+        ensures delivers { Delivered V.ColumnValue.val V.ColumnValue.kind (means self.old) (means self.new) column k (slices repetitions.old definitions.old values.old) (slices repetitions.new definitions.new values.new) result }
         ensures one_to_k { Chosen (coming_of (means self.old) column) k result };
 
     /// Copies bytes of the pool, those of a triplet's run, of a part of one or any others, to the front of the memory.

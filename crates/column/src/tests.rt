@@ -61,7 +61,7 @@ fn words(
     k: usize,
 ) -> Result<(usize, usize, u8, u64), SourceFault> {
     let (mut r, mut d, mut v) = ([9; 16], [9; 16], [9; 16]);
-    let (levels, values) = list.deliver_words(column, k, &mut r, &mut d, &mut v)?;
+    let (levels, values) = list.deliver::<u64>(column, k, &mut r, &mut d, &mut v)?;
     Ok((levels, values, d[0], v[0]))
 }
 

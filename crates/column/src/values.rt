@@ -2,12 +2,9 @@
 ghost use Rattle.std.specs.Prelude.{◌≡◌, false, Some, None, refl};
 ghost use Rattle.plan.specs.declared.kind.ValueKind.{ValueKind};
 ghost use Rattle.value.specs.declared.types.Value.{Value};
-ghost use Rattle.column.specs.Meaning.{coming_of, kind_of, same_kind, word_kind, word_value, int96_kind, int96_value, run_kind, run_value};
-ghost use Rattle.column.specs.Delivery.{Delivered, Chosen, batch_memory, zero_of};
+ghost use Rattle.column.specs.Meaning.{kind_of, same_kind, word_kind, word_value, int96_kind, int96_value, run_kind, run_value};
+ghost use Rattle.column.specs.Delivery.{zero_of};
 
-use crate::batch::Batch;
-use crate::fault::SourceFault;
-use crate::source::BatchSource;
 use plan::ValueKind;
 use value::{Int96, Run, Value};
 
@@ -26,22 +23,14 @@ pub trait ColumnValue: Copy {
         ensures { val result ≡ zero_of kind };
 
     /// This as a value of any kind.
+    // With `from_value` the trait's own maps, told by `val` and `kind`: as bounds `From` and `TryFrom` would ask more of an
+    // implementor, and leave these two to be tied to them.
     fn to_value(self) -> Value
         ensures { result ≡ val self };
 
     /// A value of any kind as one of this, if it is of this kind.
     fn from_value(value: Value) -> Option<Self>
         ensures { elim result [ Some v ↦ val v ≡ value | None ↦ same_kind (kind_of value) kind ≡ false ] };
-
-    /// Has a source hand over the next triplets of a column, up to k.
-    fn deliver<S: BatchSource>(
-        source: &mut S,
-        column: usize,
-        k: usize,
-        batch: &mut Batch<Self>,
-    ) -> Result<(usize, usize), SourceFault>
-        ensures delivers { Delivered val kind (S.BatchSource.means source.old) (S.BatchSource.means source.new) column k (batch_memory batch.old) (batch_memory batch.new) result }
-        ensures one_to_k { Chosen (coming_of (S.BatchSource.means source.old) column) k result };
 
     ghost of_its_kind: { (v : Self) → kind_of (val v) ≡ kind };
 }
@@ -71,21 +60,6 @@ impl ColumnValue for u64 {
             _ => None,
         }
     }
-
-    fn deliver<S: BatchSource>(
-        source: &mut S,
-        column: usize,
-        k: usize,
-        batch: &mut Batch<u64>,
-    ) -> Result<(usize, usize), SourceFault> {
-        source.deliver_words(
-            column,
-            k,
-            &mut batch.repetitions,
-            &mut batch.definitions,
-            &mut batch.values,
-        )
-    }
 }
 
 impl ColumnValue for Int96 {
@@ -100,11 +74,7 @@ impl ColumnValue for Int96 {
     }
 
     fn zero() -> Int96 {
-        Int96 {
-            low: 0,
-            middle: 0,
-            high: 0,
-        }
+        Int96::default()
     }
 
     fn to_value(self) -> Value {
@@ -116,21 +86,6 @@ impl ColumnValue for Int96 {
             Value::Int96(v) => Some(v),
             _ => None,
         }
-    }
-
-    fn deliver<S: BatchSource>(
-        source: &mut S,
-        column: usize,
-        k: usize,
-        batch: &mut Batch<Int96>,
-    ) -> Result<(usize, usize), SourceFault> {
-        source.deliver_int96s(
-            column,
-            k,
-            &mut batch.repetitions,
-            &mut batch.definitions,
-            &mut batch.values,
-        )
     }
 }
 
@@ -146,10 +101,7 @@ impl ColumnValue for Run {
     }
 
     fn zero() -> Run {
-        Run {
-            place: 0,
-            length: 0,
-        }
+        Run::default()
     }
 
     fn to_value(self) -> Value {
@@ -161,20 +113,5 @@ impl ColumnValue for Run {
             Value::Run(v) => Some(v),
             _ => None,
         }
-    }
-
-    fn deliver<S: BatchSource>(
-        source: &mut S,
-        column: usize,
-        k: usize,
-        batch: &mut Batch<Run>,
-    ) -> Result<(usize, usize), SourceFault> {
-        source.deliver_runs(
-            column,
-            k,
-            &mut batch.repetitions,
-            &mut batch.definitions,
-            &mut batch.values,
-        )
     }
 }

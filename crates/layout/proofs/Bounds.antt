@@ -1,5 +1,5 @@
 -- The room of a row. Assumes nothing.
-use Rattle.std.proofs.Common.{◌≡◌, ℕ, suc, ◌+◌, ◌*◌, ◌^◌, ◌<◌, ◌≤◌, max, Bool, true, false, cond, ◌&&◌, leb, List, [], ◌∷◌, ◌++◌, length, Some, None, sum_by, Option, sym, refl, ap, ◌∙◌, add-mul, mul-le-mul_left, zero-mul, mul-suc, arith}
+use Rattle.std.proofs.Common.{◌≡◌, ℕ, suc, ◌+◌, ◌*◌, ◌^◌, ◌<◌, ◌≤◌, max, Bool, true, List, [], ◌∷◌, length, Some, None, sum_by, refl, ap, ◌∙◌, add-mul, mul-suc, arith}
 use Rattle.std.specs.List.{flat_map, AllByRecursion}
 use Rattle.std.proofs.lemmas.List.{length-append, append-nil}
 use Rattle.std.proofs.ByRecursion.{All-weaker}
@@ -9,14 +9,14 @@ use Rattle.std.proofs.lemmas.Bool.{and_parts, leb-true, cond_both}
 use Rattle.basic.specs.declared.types.PhysicalType.{PhysicalType}
 use Rattle.basic.specs.declared.types.PhysicalType.TheVariants as physical
 use Rattle.plan.specs.declared.kind.FieldKind.TheVariants as field
-use Rattle.plan.specs.Shapes.{Shape, leaf, optional, group, repeated, ◌&◌, Many, width}
+use Rattle.plan.specs.Shapes.{Shape, leaf, optional, group, repeated, ◌&◌}
 use Rattle.value.specs.declared.leaf.LeafType.{LeafType}
 use Rattle.value.specs.Values.{Value, word, int96, run}
 use Rattle.value.specs.Numbers.{big_endian}
-use Rattle.value.specs.Leaves.{fitting, shown, max_run, is_kind, shows_bytes, decimal_width, stores_run}
+use Rattle.value.specs.Leaves.{fitting, shown, max_run, is_kind, shows_bytes, decimal_width}
 use Rattle.value.proofs.Bytes.{length-big_endian}
 use Rattle.dremel.specs.Rows.{Row, Fits}
-use Rattle.layout.specs.Cells.{Held, Item, item, cells_from, bytes_of}
+use Rattle.layout.specs.Cells.{Item, bytes_of}
 use Rattle.layout.specs.Rows.{Telling, items, laid_cells, laid_bytes, shown_by, stored, fitting_by}
 use Rattle.layout.specs.Laws.{leaf_count, height, triplet_count, Short, Room, Bounded}
 use Rattle.layout.proofs.Places.{length_cells, bytes_append}

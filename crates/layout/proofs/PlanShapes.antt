@@ -1,10 +1,10 @@
 -- The shapes of plans. Assumes nothing.
-use Rattle.std.proofs.Common.{ℕ, suc, ◌+◌, ◌*◌, ◌≤◌, max, ap, arith}
+use Rattle.std.proofs.Common.{ℕ, ◌+◌, ◌*◌, ◌≤◌, ap, arith}
 use Rattle.basic.specs.Codes.{repetition_code}
-use Rattle.schema.specs.Schemas.{Heading, Node, leaf, group, Nodes, none, more, Tree}
-use Rattle.schema.specs.Image.{levels, levels_of, Within}
-use Rattle.plan.specs.Shapes.{Shape, leaf as leaf_shape, optional as optional_shape, group as group_shape, repeated as repeated_shape, ◌&◌}
-use Rattle.plan.specs.Meaning.{Shaped, required, optional, repeated, Body, one_leaf, plain_group, list_of_middle, list_of_field, map_of_both, list_of_keys, Fields, one_field, and_others, ShapeOf, root}
+use Rattle.schema.specs.Schemas.{Node, Nodes, Tree}
+use Rattle.schema.specs.Image.{levels, levels_of}
+use Rattle.plan.specs.Shapes.{Shape}
+use Rattle.plan.specs.Meaning.{Shaped, required, optional, repeated, Body, one_leaf, plain_group, list_of_middle, list_of_field, map_of_both, list_of_keys, Fields, one_field, and_others, ShapeOf}
 use Rattle.layout.specs.Laws.{Leads, Plain, height, ShapesOfPlans}
 
 mutual

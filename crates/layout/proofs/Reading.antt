@@ -1,17 +1,15 @@
 -- A laid-out row is read back from left to right. Assumes nothing.
-use Rattle.std.proofs.Common.{◌≡◌, ℕ, ◌+◌, Bool, true, List, [], ◌∷◌, ◌++◌, length, Some, None, Option, sym, refl, ap, ◌∙◌, subst, arith}
+use Rattle.std.proofs.Common.{◌≡◌, ℕ, ◌+◌, Bool, List, [], ◌∷◌, ◌++◌, length, Some, None, sym, refl, ap, ◌∙◌, subst, arith}
 use mathlib.Core.List.{head-eq_of_cons-eq, tail-eq_of_cons-eq}
 use Rattle.std.specs.List.{flat_map, AllByRecursion}
 use Rattle.std.proofs.lemmas.List.{append_assoc}
-use Rattle.plan.specs.declared.kind.FieldKind.TheVariants as field
-use Rattle.plan.specs.Shapes.{Shape, leaf, optional, group, repeated, ◌&◌, Many, as_list, as_map, width}
+use Rattle.plan.specs.Shapes.{Shape, leaf, optional, group, repeated, ◌&◌, Many, as_list, as_map}
 use Rattle.value.specs.Values.{Value}
 use Rattle.dremel.specs.Rows.{Row, Fits}
-use Rattle.layout.specs.declared.cell.CellKind.{CellKind}
 use Rattle.layout.specs.declared.cell.Cell.{Cell}
-use Rattle.layout.specs.Cells.{Held, Item, item, counted, cell_number, cell_at, cells_from, bytes_of}
+use Rattle.layout.specs.Cells.{Item, counted, cell_number, cells_from, bytes_of}
 use Rattle.layout.specs.Rows.{Telling, many_kind, items, laid_cells, laid_bytes}
-use Rattle.layout.specs.Laws.{Leads, Plain, TellsApart, Determines, LayoutDetermines}
+use Rattle.layout.specs.Laws.{Leads, Plain, TellsApart, LayoutDetermines}
 use Rattle.layout.proofs.Places.{cells_append, bytes_append, same-held}
 
 -- what is laid out from any place on, whatever follows, tells x from y

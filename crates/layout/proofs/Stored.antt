@@ -1,12 +1,12 @@
 -- The cells of stored values. Assumes nothing.
-use Rattle.std.proofs.Common.{◌≡◌, ℕ, ◌+◌, ◌*◌, ◌^◌, ◌<◌, Bool, true, false, ◌&&◌, ltb, List, sym, refl, ap, ◌∙◌, arith}
+use Rattle.std.proofs.Common.{◌≡◌, ℕ, ◌+◌, ◌*◌, ◌^◌, ◌<◌, true, ap, arith}
 use Rattle.std.proofs.lemmas.Bool.{and_parts, ltb-true}
 use Rattle.value.specs.declared.leaf.LeafType.{LeafType}
 use Rattle.value.specs.Values.{Value, word, int96, run}
-use Rattle.value.specs.Leaves.{fitting, stores_int96}
+use Rattle.value.specs.Leaves.{fitting}
 use Rattle.layout.specs.Cells.{Held, cell_number}
 use Rattle.layout.specs.Rows.{stored, fitting_by}
-use Rattle.layout.specs.Laws.{TellsApart, StoredTells, StoredDetermines}
+use Rattle.layout.specs.Laws.{StoredTells, StoredDetermines}
 use Rattle.layout.proofs.Reading.{layout_determines}
 
 number_of : (g h : Held) → g ≡ h → cell_number g.kind ≡ cell_number h.kind

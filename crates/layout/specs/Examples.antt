@@ -1,15 +1,14 @@
 -- Worked examples of laid-out rows. Assumes nothing.
-use Rattle.std.specs.Prelude.{◌≡◌, ℕ, ◌^◌, List, [], ◌∷◌, Some, None, Option}
+use Rattle.std.specs.Prelude.{◌≡◌, ℕ, List, [], ◌∷◌, Some, None}
 use Rattle.basic.specs.declared.types.PhysicalType.{PhysicalType}
 use Rattle.basic.specs.declared.types.PhysicalType.TheVariants as physical
 use Rattle.plan.specs.declared.kind.FieldKind.{FieldKind}
 use Rattle.plan.specs.declared.kind.FieldKind.TheVariants as field
 use Rattle.plan.specs.Shapes.{Shape, leaf, optional, group, repeated, ◌&◌, as_list, as_map}
 use Rattle.value.specs.declared.leaf.LeafType.{LeafType}
-use Rattle.value.specs.Values.{Value, word, int96, run}
+use Rattle.value.specs.Values.{word, int96, run}
 use Rattle.dremel.specs.Rows.{Row}
-use Rattle.layout.specs.declared.cell.CellKind.{CellKind}
-use Rattle.layout.specs.declared.cell.CellKind.TheVariants.{Shown, StoredWord, StoredInt96, StoredRun}
+use Rattle.layout.specs.declared.cell.CellKind.TheVariants.{Shown, StoredInt96, StoredRun}
 use Rattle.layout.specs.declared.cell.Cell.{Cell}
 use Rattle.layout.specs.Cells.{count_cell, word_cell, bytes_cell}
 use Rattle.layout.specs.Rows.{laid_cells, laid_bytes, shown_by, stored}

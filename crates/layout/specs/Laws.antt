@@ -1,5 +1,5 @@
 -- What the layout of a row tells, and how much room it takes. Assumes nothing.
-use Rattle.std.specs.Prelude.{◌≡◌, ℕ, suc, ◌+◌, ◌-◌, ◌*◌, ◌^◌, ◌<◌, ◌≤◌, max, Bool, true, List, [], ◌∷◌, ◌++◌, length, Some, None, sum_by, Option, ◌≢◌, slice_index_or}
+use Rattle.std.specs.Prelude.{◌≡◌, ℕ, suc, ◌+◌, ◌-◌, ◌*◌, ◌^◌, ◌<◌, ◌≤◌, max, Bool, true, List, [], ◌∷◌, ◌++◌, length, Some, None, sum_by, ◌≢◌, slice_index_or}
 use Rattle.schema.specs.Schemas.{Tree}
 use Rattle.schema.specs.Image.{Within}
 use Rattle.plan.specs.Meaning.{ShapeOf}
@@ -8,7 +8,6 @@ use Rattle.value.specs.declared.leaf.LeafType.{LeafType}
 use Rattle.value.specs.Values.{Value}
 use Rattle.value.specs.Leaves.{max_run}
 use Rattle.dremel.specs.Rows.{Row, Fits}
-use Rattle.layout.specs.declared.cell.CellKind.{CellKind}
 use Rattle.layout.specs.declared.cell.Cell.{Cell}
 use Rattle.layout.specs.Cells.{cell_number, has_bytes, Held, Item, item, cells_from, bytes_of, zero_cell, Names}
 use Rattle.layout.specs.Rows.{Telling, laid_cells, laid_bytes, shown_by, stored, fitting_by}

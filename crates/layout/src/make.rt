@@ -13,6 +13,8 @@ use value::Int96;
 
 impl CellKind {
     /// The kind's number, from 0: those of the fields, then 24, 25 and 26.
+    // A match: a field as shown has the number of its own kind.
+    #[tactic(auto, using(crate::proofs::Samples::layout_examples))]
     pub fn number(self) -> u8
         ensures number { result ≡ cell_number self }
         ensures worked_examples { LayoutExamples }
@@ -100,16 +102,13 @@ impl Cell {
     }
 
     /// The part of a row's bytes that the cell names, or none where it passes them.
+    #[tactic(auto, using(crate::proofs::Places::cells_name_bytes))]
     pub fn part<'a>(&self, memory: &'a [u8]) -> Option<&'a [u8]>
         ensures names { MatchOption result (length_of memory.now < self.now.start + self.now.length) (λ p. Names self.now memory.now p.now) }
         ensures cells_name_bytes { CellsNameBytes }
     {
-        let room = memory.len() as u64;
-        let length = u64::from(self.length);
-        if self.start > room || length > room - self.start {
-            return None;
-        }
-        let start = self.start as usize;
-        Some(&memory[start..start + length as usize])
+        memory
+            .get(self.start as usize..)?
+            .get(..self.length as usize)
     }
 }

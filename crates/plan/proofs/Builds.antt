@@ -21,6 +21,10 @@ use Rattle.plan.proofs.LinkSamples.{link_examples, build_examples}
 abbrev Answer : Result Unit BuildRefusal → ℕ → List ℕ → List ℕ → Plan → Plan → Type 0
 Answer r k file read old new = record { builds : Built r k file read old new; builds_exactly_where_it_can : Means r k file read new; says_why : Explains r k file read; worked_examples : ShapeExamples; worked_links : LinkExamples; worked_builds : BuildExamples }
 
+answer : (r : Result Unit BuildRefusal) (k : ℕ) (file read : List ℕ) (old new : Plan) → Built r k file read old new → Means r k file read new → Explains r k file read → Answer r k file read old new
+answer r k file read old new builds means why =
+    record { builds = builds; builds_exactly_where_it_can = means; says_why = why; worked_examples = shape_examples; worked_links = link_examples; worked_builds = build_examples }
+
 -- the schema that an image was read as
 pub record ReadAs (bytes : List ℕ) (s : Schema) (t : Tree) : Type 0 where
   pub within : Within t
@@ -49,14 +53,10 @@ size_wrong k c = ⊎_elim (λ z. and_left (leb 1 k) (leb k 16) (lt-leb 1 k (omeg
 pub batch_refused : (k : ℕ) (file read : List ℕ) (old : Plan) → (k ≡ 0) ⊎ (16 < k) → Answer (Err BatchSize) k file read old old
 unfolding build_in
 batch_refused k file read old c =
-    record {
-      builds = (let w = size_wrong k c in rw w, refl);
-      builds_exactly_where_it_can = λ f t im. absurd (⊎_elim (λ z. omega (arith, im.least)) (λ m. omega (arith, im.most)) c);
-      says_why = λ f t im. absurd (⊎_elim (λ z. omega (arith, im.least)) (λ m. omega (arith, im.most)) c);
-      worked_examples = shape_examples;
-      worked_links = link_examples;
-      worked_builds = build_examples;
-    }
+    answer (Err BatchSize) k file read old old
+    (let w = size_wrong k c in rw w, refl)
+    (λ f t im. absurd (⊎_elim (λ z. omega (arith, im.least)) (λ m. omega (arith, im.most)) c))
+    (λ f t im. absurd (⊎_elim (λ z. omega (arith, im.least)) (λ m. omega (arith, im.most)) c))
 
 -- the batch size is right
 module _ (k : ℕ) (file read : List ℕ) (old : Plan) (least : k ≡ 0 → ⊥) (most : k ≤ 16) where
@@ -66,14 +66,10 @@ module _ (k : ℕ) (file read : List ℕ) (old : Plan) (least : k ≡ 0 → ⊥)
   pub file_refused : (e : ImageRefusal) → schema_in file ≡ Err e → ((f : Tree) → Within f → image f ≡ file → ⊥) → Answer (Err (Image e)) k file read old old
   unfolding build_in
   file_refused e h no-image =
-      record {
-        builds = (let right = size_right in rw right (rw h), refl);
-        builds_exactly_where_it_can = λ f t im. absurd (no-image f im.file_within im.file_image);
-        says_why = λ f t im. absurd (no-image f im.file_within im.file_image);
-        worked_examples = shape_examples;
-        worked_links = link_examples;
-        worked_builds = build_examples;
-      }
+      answer (Err (Image e)) k file read old old
+      (let right = size_right in rw right (rw h), refl)
+      (λ f t im. absurd (no-image f im.file_within im.file_image))
+      (λ f t im. absurd (no-image f im.file_within im.file_image))
 
   module _ (sf : Schema) (f : Tree) (rf : ReadAs file sf f) where
     pub read_refused : (e : ImageRefusal) (given : List ℕ) → given ≡ read_or file read → schema_in given ≡ Err e → ((t : Tree) → Within t → image t ≡ given → ⊥) → Answer (Err (Image e)) k file read old old
@@ -82,50 +78,36 @@ module _ (k : ℕ) (file read : List ℕ) (old : Plan) (least : k ≡ 0 → ⊥)
         let there : schema_in (read_or file read) ≡ Err e = ap schema_in (sym same) ∙ h in
         let right = size_right in
         let first = rf.read in
-        record {
-          builds = (rw right (rw first (rw there)), refl);
-          builds_exactly_where_it_can = λ g t im. absurd (no-image t im.read_within (im.read_image ∙ sym same));
-          says_why = λ g t im. absurd (no-image t im.read_within (im.read_image ∙ sym same));
-          worked_examples = shape_examples;
-          worked_links = link_examples;
-          worked_builds = build_examples;
-        }
+        answer (Err (Image e)) k file read old old
+        (rw right (rw first (rw there)), refl)
+        (λ g t im. absurd (no-image t im.read_within (im.read_image ∙ sym same)))
+        (λ g t im. absurd (no-image t im.read_within (im.read_image ∙ sym same)))
 
     module _ (sr : Schema) (t : Tree) (rt : ReadAs (read_or file read) sr t) where
       by_plan : build_in k file read ≡ plan_of k f t
       unfolding build_in
       by_plan = let right = size_right in let first = rf.read in let second = rt.read in rw right (rw first (rw second))
 
-      pub plan_refused : (r : Result Unit BuildRefusal) (y x : BuildRefusal) → r ≡ Err y → y ≡ x → PlannedAs (Err x) (plan_of k f t) → MeantFor (Err x) f t → SaysWhy (Err x) f t → Answer r k file read old old
-      plan_refused r y x p q planned meant why =
-          subst (λ w. Answer w k file read old old) (sym p)
-          (record {
-            builds = (by_plan ∙ planned ∙ ap Err (sym q), refl);
-            builds_exactly_where_it_can = λ g u im.
-                let one = rt.only u im.read_within im.read_image in
-                let two = rf.only g im.file_within im.file_image in
-                subst (λ v. NoPlanFor v u × NamesBroken y u) (sym two) (subst (λ v. NoPlanFor f v × NamesBroken y v) (sym one) (meant.0, λ o broken. meant.1 o broken ∙ sym q));
-            says_why = λ g u im.
-                let one = rt.only u im.read_within im.read_image in
-                let two = rf.only g im.file_within im.file_image in
-                subst (λ v. Why y v u) (sym two) (subst (λ v. Why y f v) (sym one) (subst (λ e. Why e f t) (sym q) why));
-            worked_examples = shape_examples;
-            worked_links = link_examples;
-            worked_builds = build_examples;
-          })
+      pub plan_refused : (x : BuildRefusal) → PlannedAs (Err x) (plan_of k f t) → MeantFor (Err x) f t → SaysWhy (Err x) f t → Answer (Err x) k file read old old
+      plan_refused x planned meant why =
+          answer (Err x) k file read old old
+          (by_plan ∙ planned, refl)
+          (λ g u im.
+          let one = rt.only u im.read_within im.read_image in
+          let two = rf.only g im.file_within im.file_image in
+          subst (λ v. NoPlanFor v u × NamesBroken x u) (sym two) (subst (λ v. NoPlanFor f v × NamesBroken x v) (sym one) meant))
+          (λ g u im.
+          let one = rt.only u im.read_within im.read_image in
+          let two = rf.only g im.file_within im.file_image in
+          subst (λ v. Why x v u) (sym two) (subst (λ v. Why x f v) (sym one) why))
 
       pub plan_built : (new : Plan) → PlannedAs (Ok new) (plan_of k f t) → MeantFor (Ok new) f t → Answer (Ok tt) k file read old new
       plan_built new planned meant =
-          record {
-            builds = (planned.0, by_plan ∙ planned.1, planned.2);
-            builds_exactly_where_it_can = (
-              f,
-              t,
-              record { least = omega arith; most = most; file_within = rf.within; file_image = rf.is; read_within = rt.within; read_image = rt.is },
-              meant,
-            );
-            says_why = tt;
-            worked_examples = shape_examples;
-            worked_links = link_examples;
-            worked_builds = build_examples;
-          }
+          answer (Ok tt) k file read old new
+          (planned.0, by_plan ∙ planned.1, planned.2) (
+            f,
+            t,
+            record { least = omega arith; most = most; file_within = rf.within; file_image = rf.is; read_within = rt.within; read_image = rt.is },
+            meant,
+          )
+          tt

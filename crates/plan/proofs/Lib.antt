@@ -14,7 +14,6 @@ pub mod Complete
 pub mod Broken
 pub mod ShapeLaw
 pub mod Samples
-pub mod Grid
 pub mod KindSamples
 pub mod LinkSame
 pub mod LinkFind
@@ -25,7 +24,6 @@ pub mod LinkVisit
 pub mod LinkTop
 pub mod LinkMeaning
 pub mod PoolNames
-pub mod ColumnsListed
 pub mod LinkSamples
 pub mod Planning
 pub mod Builds

@@ -1,16 +1,17 @@
 -- The lookup of a column by its path. Assumes nothing.
-use Rattle.std.proofs.Common.{◌≡◌, ℕ, ◌+◌, ◌<◌, ◌≤◌, Bool, true, false, cond, ◌⊎◌, List, [], ◌∷◌, ◌++◌, map, length, get_or, drop, Some, None, Option, sym, refl, ap, ◌∙◌, subst, inl, inr, ⊎_elim, append_assoc, append-nil, arith}
+use Rattle.std.proofs.Common.{◌≡◌, ℕ, zero, suc, slice_index_or, ◌+◌, ◌<◌, Bool, true, false, cond, ◌⊎◌, List, [], ◌∷◌, ◌++◌, map, length, get_or, Some, None, Option, sym, refl, ap, ◌∙◌, subst, inl, inr, ⊎_elim, append_assoc, append-nil, arith}
+use Rattle.std.specs.Option.{MatchOption}
+use Rattle.std.specs.List.{AllWithin, HoldsAt}
 use lib.ListN.{length-map}
-use Rattle.std.proofs.lemmas.List.{get_or-map, map_push, length_push, get_or_push, get_or_append_left, at_drop_more, at_drop_all}
-use Rattle.std.proofs.lemmas.Bool.{cases_lt}
+use Rattle.std.proofs.lemmas.List.{get_or-map, map_push, length_push, get_or_push, get_or_append_left}
+use Rattle.std.proofs.lemmas.Bool.{cases_lt, cases_order}
 use Rattle.std.proofs.lemmas.Bool.Decides.{not_from_Decides}
-use Rattle.schema.specs.declared.entry.Header.{Header}
 use Rattle.schema.specs.declared.column.Column.{Column}
 use Rattle.schema.specs.declared.tree.Schema.{Schema}
-use Rattle.schema.specs.Columns.{ColumnOf, parts}
+use Rattle.schema.specs.Columns.{ColumnOf}
 use Rattle.schema.specs.Tables.{column_read}
 use Rattle.schema.specs.Answering.{seen_columns, columns_in}
-use Rattle.plan.specs.Links.{names, headings_of, path_names, same_path, last_on, highest, HasPath, Highest}
+use Rattle.plan.specs.Links.{path_names, same_path, last_on, highest, HasPath, Highest}
 use Rattle.plan.proofs.LinkSame.{decides_path}
 
 -- one column more
@@ -61,28 +62,44 @@ last_means found n before (c ∷ cs) path is h =
 pub highest_means : (columns : List ColumnOf) (path : List (List ℕ)) → Highest (highest columns path) columns path
 highest_means columns path = last_means None 0 [] columns path refl (λ k h. omega (arith, h.0))
 
--- a loop over the columns: what is left gives what all give
-module _ (columns : List ColumnOf) (path : List (List ℕ)) (i : ℕ) (found : Option ℕ) (inv : last_on found i (drop i columns) path ≡ highest columns path) where
-  pub find_step : (b : Bool) (next : Option ℕ) (d : ColumnOf) → i < length columns → b ≡ same_path (path_names (get_or columns i d)) path → next ≡ cond b (Some i) found
-      → last_on next (i + 1) (drop (i + 1) columns) path ≡ highest columns path
-  find_step b next d lt test is =
-      ap (λ o. last_on o (i + 1) (drop (i + 1) columns) path) (is ∙ ap (λ t. cond t (Some i) found) test)
-      ∙ sym (at_drop_more (λ l. last_on found i l path) columns i d lt) ∙ inv
+-- there is one highest-numbered column
+pub highest-one : (columns : List ColumnOf) (path : List (List ℕ)) (a b : Option ℕ) → Highest a columns path → Highest b columns path → a ≡ b
+highest-one columns path None None h g = refl
+highest-one columns path None (Some n) h g = absurd (h n g.0)
+highest-one columns path (Some m) None h g = absurd (g m h.0)
+highest-one columns path (Some m) (Some n) h g = ⊎_elim (λ e. ap Some e) (λ o. ⊎_elim (λ lt. absurd (h.1 n lt g.0)) (λ lt. absurd (g.1 m lt h.0)) o) (cases_order m n)
 
-  pub find_all : length columns ≤ i → found ≡ highest columns path
-  find_all over = sym (at_drop_all (λ l. last_on found i l path) columns i over) ∙ inv
+at_of : {A B : Type 0} (f : A → B) (P : B → Type 0) (xs : List A) (k : ℕ) → k < length xs → HoldsAt (λ x. P (f x)) xs k → HoldsAt P (map f xs) k
+at_of f P [] k lt h = absurd (omega arith)
+at_of f P (x ∷ xs) zero lt h = λ e. h x
+at_of f P (x ∷ xs) (suc k) lt h = at_of f P xs k (omega arith) h
 
 -- a column of the table
-module _ (file : Schema) (cols : List Column) (i : ℕ) (d : Column) (all : cols ≡ columns_in file) (lt : i < length cols) where
-  pub column_in : i < length (seen_columns file)
-  column_in = simp length-map (subst (λ l. i < length l) all lt)
+module _ (file : Schema) (cols : List Column) (all : cols ≡ columns_in file) where
+  pub column_at_lem : (i : ℕ) (d : Column) → i < length cols → (e : ColumnOf) → get_or (seen_columns file) i e ≡ column_read file.image.now (get_or cols i d)
+  column_at_lem i d lt e = get_or-map (column_read file.image.now) (columns_in file) i d e (subst (λ l. i < length l) all lt) ∙ ap (λ l. column_read file.image.now (get_or l i d)) (sym all)
 
-  pub column_at_lem : (e : ColumnOf) → get_or (seen_columns file) i e ≡ column_read file.image.now (get_or cols i d)
-  column_at_lem e = get_or-map (column_read file.image.now) (columns_in file) i d e (subst (λ l. i < length l) all lt) ∙ ap (λ l. column_read file.image.now (get_or l i d)) (sym all)
+  module _ (key : List (List ℕ)) where
+    -- whether its path is the one looked for
+    abbrev pub Tells : Bool → Column → Type 0
+    Tells b d = b ≡ same_path (path_names (column_read file.image.now d)) key
 
-  pub tried : (key : List (List ℕ)) (found next : Option ℕ) (hs : List Header) (b : Bool) → last_on found i (drop i (seen_columns file)) key ≡ highest (seen_columns file) key
-      → hs ≡ parts (get_or cols i d).path → b ≡ same_path (names (headings_of file hs)) key → next ≡ cond b (Some i) found
-      → last_on next (i + 1) (drop (i + 1) (seen_columns file)) key ≡ highest (seen_columns file) key
-  tried key found next hs b inv is test chosen =
-      find_step (seen_columns file) key i found inv b next (column_read file.image.now d) column_in
-      (test ∙ ap (λ l. same_path (names (headings_of file l)) key) is ∙ ap (λ c. same_path (path_names c) key) (sym (column_at_lem (column_read file.image.now d)))) chosen
+    passed : (b : Bool) (k : ℕ) → k < length cols → HoldsAt (Tells b) cols k → b ≡ same_path (slice_index_or (map path_names (seen_columns file)) k []) key
+    passed b k lt h =
+        let short : k < length (columns_in file) = subst (λ l. k < length l) all lt in
+        at_of path_names (λ p. b ≡ same_path p key) (seen_columns file) k (simp length-map short)
+        (at_of (column_read file.image.now) (λ c. b ≡ same_path (path_names c) key) (columns_in file) k short (subst (λ l. HoldsAt (Tells b) l k) all h)) []
+
+    lost : (k : ℕ) → HoldsAt (Tells false) cols k → HasPath (seen_columns file) key k → ⊥
+    lost k h has =
+        let lt : k < length cols = subst (λ l. k < length l) (sym all) (simp length-map at has.0) in
+        not_from_Decides _ (decides_path (slice_index_or (map path_names (seen_columns file)) k []) key) (sym (passed false k lt h)) has.1
+
+    -- what the last column that passes the test is
+    pub highest_from : (o : Option ℕ) → MatchOption o (AllWithin (Tells false) cols 0 (length cols)) (λ n. (n < length cols) × HoldsAt (Tells true) cols n × AllWithin (Tells false) cols (n + 1) (length cols))
+        → Highest o (seen_columns file) key
+    highest_from None none = λ k has. lost k (λ d. none k d (omega arith) (subst (λ l. k < length l) (sym all) (simp length-map at has.0))) has
+    highest_from (Some n) one = (
+      (simp length-map (subst (λ l. n < length l) all one.0), (decides_path _ key).0 (sym (passed true n one.0 one.1))),
+      λ k more has. lost k (λ d. one.2 k d (omega arith) (subst (λ l. k < length l) (sym all) (simp length-map at has.0))) has,
+    )

@@ -1,6 +1,7 @@
 -- What the rules say of one leaf, over the tables. Assumes nothing.
-use Rattle.std.proofs.Common.{◌≡◌, ℕ, ◌<◌, true, false, cond, List, [], ◌∷◌, ◌++◌, map, length, get_or, Some, None, Ok, Err, Option, Result, sym, refl, ap, ◌∙◌, subst, arith}
+use Rattle.std.proofs.Common.{◌≡◌, ℕ, ◌<◌, true, false, cond, List, [], ◌∷◌, ◌++◌, map, length, get_or, Some, None, Ok, Err, IsOk, Option, Result, sym, refl, ap, ◌∙◌, subst, arith}
 use lib.ListN.{length-map}
+use Rattle.std.proofs.lemmas.Bool.{false≢true}
 use Rattle.std.specs.Option.{ok_or}
 use Rattle.basic.specs.declared.types.ConvertedType.{ConvertedType}
 use Rattle.schema.specs.declared.entry.Header.{Header}
@@ -15,7 +16,7 @@ use Rattle.plan.specs.declared.link.Uses.{Uses}
 use Rattle.plan.specs.declared.refusal.BuildRefusal.{BuildRefusal}
 use Rattle.plan.specs.declared.refusal.BuildRefusal.TheVariants.{PathAgain, PathMissing, RepetitionDiffers}
 use Rattle.plan.specs.Kinds.{shown_kind}
-use Rattle.plan.specs.Links.{names, repetitions, annotations, headings_of, same_parts, same_repetition, highest, Highest, last_of, shown_as, link_with, link_one, linking, link_all, is_used, used_of, came_to, Pushed}
+use Rattle.plan.specs.Links.{names, repetitions, annotations, headings_of, same_parts, same_repetition, highest, Highest, last_of, shown_as, link_with, link_one, linking, link_all, is_used, used_of, came_to}
 use Rattle.plan.proofs.LinkFind.{column_at_lem}
 use Rattle.plan.proofs.LinkRules.{link_missing, link_again, link_found, linked_more, linked_length}
 use Rattle.plan.proofs.LinkUses.{same-repetitions, same-annotations}
@@ -45,7 +46,7 @@ module _ (read file : Schema) (path : List Header) (us : List UsedColumn) (earli
 
     module _ (unused : false ≡ is_used us n) (cols : List Column) (d : Column) (all : cols ≡ columns_in file) (lt : n < length cols) (hs : List Header) (ended : hs ≡ parts (get_or cols n d).path) where
       chosen : link_one (seen_columns file) earlier c ≡ link_with c.path n (column_read file.image.now (get_or cols n d))
-      chosen = link_found (seen_columns file) earlier us linked c n (looked ∙ is) (sym unused) ∙ ap (link_with c.path n) (column_at_lem file cols n d all lt c)
+      chosen = link_found (seen_columns file) earlier us linked c n (looked ∙ is) (sym unused) ∙ ap (link_with c.path n) (column_at_lem file cols all n d lt c)
 
       with_headers : link_with c.path n (column_read file.image.now (get_or cols n d))
           ≡ cond (same_parts same_repetition (repetition_of path) (repetition_of hs)) (shown_as n (shown_kind (get_or cols n d).leaf (last_of (map (λ h. h.annotation) hs)))) (Err RepetitionDiffers)
@@ -73,6 +74,6 @@ leaf_links file earlier c us linked r is = linked_more file [] earlier c us link
 
 -- the table has room for every leaf
 pub leaf_pushed : (file earlier : List ColumnOf) (c : ColumnOf) (old new : Uses) (used : UsedColumn) → link_all file [] earlier ≡ Ok (used_of old) → length earlier < 64 → Ok used ≡ link_one file earlier c
-    → (r : Result Unit BuildRefusal) → Pushed r used old new → link_all file [] (earlier ++ c ∷ []) ≡ came_to r new
-leaf_pushed file earlier c old new used linked few is (Ok x) pushed = leaf_links file earlier c (used_of old) linked (Ok used) is ∙ ap Ok (sym pushed)
-leaf_pushed file earlier c old new used linked few is (Err e) full = absurd (omega (arith, linked_length file [] earlier (used_of old) linked))
+    → (r : Result Unit BuildRefusal) → (IsOk r → used_of new ≡ used_of old ++ used ∷ []) → (length (used_of old) < 64 → IsOk r) → link_all file [] (earlier ++ c ∷ []) ≡ came_to r new
+leaf_pushed file earlier c old new used linked few is (Ok x) pushed fits = leaf_links file earlier c (used_of old) linked (Ok used) is ∙ ap Ok (sym (pushed refl))
+leaf_pushed file earlier c old new used linked few is (Err e) pushed fits = absurd (false≢true (fits (omega (arith, linked_length file [] earlier (used_of old) linked))))

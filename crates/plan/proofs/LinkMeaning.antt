@@ -1,6 +1,7 @@
 -- What linking by its steps means. Assumes nothing.
 use Rattle.std.proofs.Common.{◌≡◌, ℕ, zero, suc, ◌<◌, ◌≤◌, Bool, true, false, cond, List, [], ◌∷◌, ◌++◌, get_or, Some, None, Ok, Err, Option, Result, sym, refl, ap, ◌∙◌, subst, ⊎_elim, append_assoc, arith}
-use Rattle.std.proofs.lemmas.Bool.{cases_Bool, cases_order, both_ways, false≢true, or_left, or_right, or_from, or_cases, or_parts}
+use Rattle.std.proofs.lemmas.List.Folds.{list_any-append}
+use Rattle.std.proofs.lemmas.Bool.{cases_Bool, both_ways, false≢true, or_left, or_right, or_from, or_cases}
 use Rattle.schema.specs.Columns.{ColumnOf}
 use Rattle.plan.specs.declared.kind.FieldKind.{FieldKind}
 use Rattle.plan.specs.declared.link.UsedColumn.{UsedColumn}
@@ -11,15 +12,8 @@ use Rattle.plan.specs.Refusals.{refusal_number}
 use Rattle.plan.specs.Kinds.{shown_kind}
 use Rattle.plan.specs.Links.{path_names, same_path, same_parts, same_repetition, repetitions, annotations, last_of, any_on, highest, HasPath, Highest, shown_as, link_with, link_to, link_one, linking, link_all, UsesFor, UseAll, Apart, Denies, path_again, path_missing, repetition_differs, no_conversion, FirstDenied, DeniesFirst, Linked, used_of, uses_in, DistinctIn}
 use Rattle.plan.proofs.LinkSame.{decides_path, decides_repetitions}
-use Rattle.plan.proofs.LinkFind.{highest_means}
+use Rattle.plan.proofs.LinkFind.{highest_means, highest-one}
 use Rattle.plan.proofs.LinkRules.{ok_err, err_ok, then_err, linked_more, one_ok, parts_ok, none_ok, any_last, used_same, unused_after, linked_distinct}
-
--- there is one highest-numbered column
-highest-one : (columns : List ColumnOf) (path : List (List ℕ)) (a b : Option ℕ) → Highest a columns path → Highest b columns path → a ≡ b
-highest-one columns path None None h g = refl
-highest-one columns path None (Some n) h g = absurd (h n g.0)
-highest-one columns path (Some m) None h g = absurd (g m h.0)
-highest-one columns path (Some m) (Some n) h g = ⊎_elim (λ e. ap Some e) (λ o. ⊎_elim (λ lt. absurd (h.1 n lt g.0)) (λ lt. absurd (g.1 m lt h.0)) o) (cases_order m n)
 
 -- a column with a path is one of those with it
 any-has : (cs : List ColumnOf) (path : List (List ℕ)) (k : ℕ) → HasPath cs path k → any_on cs path ≡ true
@@ -28,10 +22,7 @@ any-has (c ∷ cs) path zero h = or_left (same_path (path_names c) path) (any_on
 any-has (c ∷ cs) path (suc k) h = or_right (same_path (path_names c) path) (any_on cs path) (any-has cs path k (omega (arith, h.0), h.1))
 
 any_push : (cs : List ColumnOf) (c : ColumnOf) (path : List (List ℕ)) → any_on cs path ≡ false → same_path (path_names c) path ≡ false → any_on (cs ++ c ∷ []) path ≡ false
-any_push [] c path h one = or_from (same_path (path_names c) path) false one refl
-any_push (x ∷ xs) c path h one =
-    let both = or_parts (same_path (path_names x) path) (any_on xs path) h in
-    or_from (same_path (path_names x) path) (any_on (xs ++ c ∷ []) path) both.0 (any_push xs c path both.1 one)
+any_push cs c path h one = list_any-append (λ x. same_path (path_names x) path) cs (c ∷ []) ∙ or_from (any_on cs path) (any_on (c ∷ []) path) h (or_from (same_path (path_names c) path) false one refl)
 
 -- columns whose paths are no earlier one's
 abbrev Fresh : List ColumnOf → List ColumnOf → Type 0
@@ -183,7 +174,7 @@ first_denied file before (c ∷ cs) us e linked h =
     (then_err rest (λ ws. Ok (a.0 ∷ ws)) e a.2))
     (then_err (link_one file before c) (λ u. linking rest (λ ws. Ok (u ∷ ws))) e h)
 
-links_none : (file : List ColumnOf) → link_all file [] [] ≡ Ok []
+pub links_none : (file : List ColumnOf) → link_all file [] [] ≡ Ok []
 unfolding link_all
 links_none file = refl
 

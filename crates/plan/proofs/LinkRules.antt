@@ -1,6 +1,8 @@
 -- What the rules of linking say of lists of columns. Assumes nothing.
 use Rattle.std.proofs.Common.{◌≡◌, ℕ, zero, suc, ◌<◌, Bool, true, false, cond, ◌||◌, eqb, ◌⊎◌, List, [], ◌∷◌, ◌++◌, map, length, get_or, Some, None, Ok, Err, Option, Result, sym, refl, ap, ◌∙◌, subst, inl, inr, ⊎_elim, append_assoc, append-nil, arith}
-use Rattle.std.proofs.lemmas.Bool.{cases_Bool, both_ways, false≢true, or_left, or_right, or_from, or_cases, eq-eqb}
+use Rattle.std.proofs.lemmas.Option.{none-some}
+use Rattle.std.proofs.lemmas.List.Folds.{list_any-append}
+use Rattle.std.proofs.lemmas.Bool.{cases_Bool, both_ways, or_left, or_right, or_from, eq-eqb}
 use Rattle.std.proofs.lemmas.Bool.Decides.{Decides-eqb, Decides-like, same_from_decides}
 use Rattle.schema.specs.Columns.{ColumnOf}
 use Rattle.plan.specs.declared.kind.FieldKind.{FieldKind}
@@ -17,9 +19,6 @@ ok_err x e h = let z : ◌≡◌ {A = ℕ} 0 1 = cc in omega arith
 
 pub err_ok : {A : Type 0} (x : A) (e : BuildRefusal) → Err e ≡ Ok x → ⊥
 err_ok x e h = ok_err x e (sym h)
-
-some_none : (n : ℕ) → Some n ≡ None → ⊥
-some_none n h = let z : ◌≡◌ {A = ℕ} 0 1 = cc in omega arith
 
 -- what goes on and ends well began well
 pub then_ok : {A B : Type 0} (r : Result A BuildRefusal) (f : A → Result B BuildRefusal) (y : B) → linking r f ≡ Ok y → (x : A) × (r ≡ Ok x) × (f x ≡ Ok y)
@@ -141,7 +140,7 @@ module _ (file : List ColumnOf) where
       let p = parts_ok earlier c cs us e in
       or_from (same_path (path_names c) path) (any_on cs path)
       (⊎_elim
-      (λ t. absurd (some_none p.0.column (sym (one_ok earlier c p.0 p.2).1 ∙ ap (highest file) ((decides_path (path_names c) path).0 t) ∙ lost)))
+      (λ t. absurd (none-some p.0.column (sym lost ∙ sym (ap (highest file) ((decides_path (path_names c) path).0 t)) ∙ (one_ok earlier c p.0 p.2).1)))
       (λ f. f)
       (cases_Bool (same_path (path_names c) path)))
       (missing_unused path lost (earlier ++ c ∷ []) cs p.1 p.3)
@@ -161,14 +160,12 @@ module _ (file : List ColumnOf) where
 
   -- a path that a column already has is used by none after it
   any_front : (cs more : List ColumnOf) (path : List (List ℕ)) → any_on cs path ≡ true → any_on (cs ++ more) path ≡ true
-  any_front [] more path h = absurd (false≢true h)
-  any_front (c ∷ cs) more path h =
-      ⊎_elim (λ a. or_left (same_path (path_names c) path) (any_on (cs ++ more) path) a) (λ a. or_right (same_path (path_names c) path) (any_on (cs ++ more) path) (any_front cs more path a))
-      (or_cases (same_path (path_names c) path) (any_on cs path) h)
+  any_front cs more path h = list_any-append (λ c. same_path (path_names c) path) cs more ∙ or_left (any_on cs path) (any_on more path) h
 
   pub any_last : (cs : List ColumnOf) (c : ColumnOf) → any_on (cs ++ c ∷ []) (path_names c) ≡ true
-  any_last [] c = or_left (same_path (path_names c) (path_names c)) false ((decides_path (path_names c) (path_names c)).1 refl)
-  any_last (x ∷ xs) c = or_right (same_path (path_names x) (path_names c)) (any_on (xs ++ c ∷ []) (path_names c)) (any_last xs c)
+  any_last cs c =
+      list_any-append (λ x. same_path (path_names x) (path_names c)) cs (c ∷ [])
+      ∙ or_right (any_on cs (path_names c)) (any_on (c ∷ []) (path_names c)) (or_left (same_path (path_names c) (path_names c)) false ((decides_path (path_names c) (path_names c)).1 refl))
 
   pub unused_after : (path : List (List ℕ)) (n : ℕ) → highest file path ≡ Some n → (earlier cs : List ColumnOf) (us : List UsedColumn) → any_on earlier path ≡ true → link_all file earlier cs ≡ Ok us → is_used us n ≡ false
   unused_after path n found earlier [] us known e = ap (λ l. is_used l n) (none_ok earlier us e)

@@ -1,7 +1,8 @@
 -- Where the nodes of a read schema stand. Assumes nothing.
-use Rattle.std.proofs.Common.{◌≡◌, ℕ, suc, ◌+◌, ◌<◌, List, [], ◌∷◌, ◌++◌, map, length, get_or, drop, sym, refl, ap, ◌∙◌, subst, ⊎_elim, append_assoc, arith, length-append, drop_of_length-le, drop-cons, drop-drop}
+use Rattle.std.proofs.Common.{◌≡◌, ℕ, suc, ◌+◌, ◌<◌, List, [], ◌∷◌, ◌++◌, map, length, get_or, drop, Bor, Some, None, Option, sym, refl, ap, ◌∙◌, subst, ⊎_elim, append_assoc, arith, length-append, drop_of_length-le, drop-cons, drop-drop}
 use Rattle.std.proofs.lemmas.List.{drop-map, length-map}
 use Rattle.std.proofs.lemmas.Bool.{cases_lt}
+use Rattle.std.specs.Option.{IsSome, option_copied}
 use Rattle.schema.specs.declared.entry.NodeEntry.{NodeEntry}
 use Rattle.schema.specs.declared.tree.Schema.{Schema}
 use Rattle.schema.specs.Schemas.{Heading, Node, leaf, group, Nodes, none, more}
@@ -21,9 +22,6 @@ own_first (group h xs) = refl
 
 same_head : {A : Type 0} {x y : A} {xs ys : List A} → x ∷ xs ≡ y ∷ ys → x ≡ y
 same_head p = cc
-
-same-tail : {A : Type 0} {x y : A} {xs ys : List A} → x ∷ xs ≡ y ∷ ys → xs ≡ ys
-same-tail p = cc
 
 -- a node stands inside, and the entry there shows it
 module _ (read : Schema) (at : ℕ) (x : Node) (stands : Stands read at x) where
@@ -78,3 +76,8 @@ first_stands read at x xs s = (rows_of xs ++ s.0, s.1 ∙ append_assoc (rows x) 
 
 pub others_stand : (read : Schema) (at : ℕ) (x : Node) (xs : Nodes) → StandAll read at (more x xs) → StandAll read (at + size x) xs
 others_stand read at x xs s = (s.0, past (seen_rows read) (rows x) (rows_of xs ++ s.0) at (size x) (s.1 ∙ append_assoc (rows x) (rows_of xs) s.0) (rows_size x))
+
+-- a loan that is copied as none is none
+pub none_copied : {X : Type 0} (o : Option (Bor X)) → option_copied o ≡ None → IsSome o → ⊥
+none_copied None e some = let z : ◌≡◌ {A = ℕ} 0 1 = cc in omega arith
+none_copied (Some x) e some = let z : ◌≡◌ {A = ℕ} 0 1 = cc in omega arith

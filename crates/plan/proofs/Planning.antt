@@ -1,5 +1,5 @@
 -- How a plan is made of two schemas. Assumes nothing.
-use Rattle.std.proofs.Common.{◌≡◌, ℕ, true, List, [], ◌∷◌, ◌++◌, map, Ok, Err, Result, sym, refl, ap, ◌∙◌, subst, take_all}
+use Rattle.std.proofs.Common.{◌≡◌, ℕ, List, [], ◌∷◌, ◌++◌, map, Some, Ok, Err, sym, refl, ap, ◌∙◌, subst, take_all}
 use Rattle.std.proofs.lemmas.List.{map-append}
 use Rattle.schema.specs.declared.entry.Header.{Header}
 use Rattle.schema.specs.declared.column.Column.{Column}
@@ -14,9 +14,9 @@ use Rattle.plan.specs.declared.build.Plan.{Plan}
 use Rattle.plan.specs.declared.refusal.BuildRefusal.{BuildRefusal}
 use Rattle.plan.specs.Shapes.{Shape}
 use Rattle.plan.specs.Forms.{shape_in}
-use Rattle.plan.specs.Meaning.{ShapeIsMeant, Broken, root}
+use Rattle.plan.specs.Meaning.{ShapeIsMeant}
 use Rattle.plan.specs.Flat.{ShapeHeld}
-use Rattle.plan.specs.Links.{last_of, link_all, used_of, uses_in, Linked, DistinctIn, FirstDenied, DeniesFirst}
+use Rattle.plan.specs.Links.{last_of, link_all, used_of, uses_in, Linked, DistinctIn, DeniesFirst}
 use Rattle.plan.specs.FileColumns.{file_column, file_column_of, listed}
 use Rattle.plan.specs.Pool.{short_name, names_held}
 use Rattle.plan.specs.Building.{plan_of, tree_names, PlannedAs, MeantFor, rule_is_broken, leaf_denied, SaysWhy}
@@ -65,40 +65,32 @@ pub columns_kept : (file : Schema) (f : Tree) → Holds file f → map file_colu
 columns_kept file f h = same-columns file.image.now (columns_in file) ∙ ap (map file_column_of) h.columns
 
 -- the shape is refused
-pub shape_refused : (k : ℕ) (f t : Tree) (r : Result Plan BuildRefusal) (y x : BuildRefusal) → r ≡ Err y → y ≡ x → shape_in t ≡ Err x → PlannedAs r (plan_of k f t)
-shape_refused k f t r y x p q h = subst (λ w. PlannedAs w (plan_of k f t)) (sym p) ((rw h) ∙ ap Err (sym q))
+pub shape_refused : (k : ℕ) (f t : Tree) (x : BuildRefusal) → shape_in t ≡ Err x → PlannedAs (Err x) (plan_of k f t)
+shape_refused k f t x h = rw h
 
-pub shape_refused_means : (f t : Tree) (r : Result Plan BuildRefusal) (y x : BuildRefusal) → Within t → r ≡ Err y → y ≡ x → shape_in t ≡ Err x → MeantFor r f t
-shape_refused_means f t r y x w p q h =
-    let meant = subst (ShapeIsMeant t) h (shape_meant t w) in
-    subst (λ k. MeantFor k f t) (sym p) ((λ s used shaped apart uses. meant.2 s shaped), (λ o broken. meant.1 o broken ∙ sym q))
+pub shape_refused_means : (f t : Tree) (x : BuildRefusal) → Within t → shape_in t ≡ Err x → MeantFor (Err x) f t
+shape_refused_means f t x w h = let meant = subst (ShapeIsMeant t) h (shape_meant t w) in ((λ s used shaped apart uses. meant.2 s shaped), meant.1)
 
-pub shape_refused_why : (f t : Tree) (r : Result Plan BuildRefusal) (y x : BuildRefusal) → Within t → r ≡ Err y → y ≡ x → shape_in t ≡ Err x → SaysWhy r f t
-shape_refused_why f t r y x w p q h =
-    let meant = subst (ShapeIsMeant t) h (shape_meant t w) in
-    subst (λ k. SaysWhy k f t) (sym p) (rule_is_broken (subst (λ e. Broken e (root t)) (sym q) meant.0))
+pub shape_refused_why : (f t : Tree) (x : BuildRefusal) → Within t → shape_in t ≡ Err x → SaysWhy (Err x) f t
+shape_refused_why f t x w h = rule_is_broken (subst (ShapeIsMeant t) h (shape_meant t w)).0
 
 -- the columns are refused
-pub uses_refused : (k : ℕ) (f t : Tree) (s : Shape) (r : Result Plan BuildRefusal) (y x : BuildRefusal) → r ≡ Err y → y ≡ x → shape_in t ≡ Ok s → Err x ≡ link_all (columns_of f) [] (columns_of t) → PlannedAs r (plan_of k f t)
-uses_refused k f t s r y x p q h l = subst (λ w. PlannedAs w (plan_of k f t)) (sym p) (rw h (rw (sym l)) ∙ ap Err (sym q))
+pub uses_refused : (k : ℕ) (f t : Tree) (s : Shape) (x : BuildRefusal) → shape_in t ≡ Ok s → Err x ≡ link_all (columns_of f) [] (columns_of t) → PlannedAs (Err x) (plan_of k f t)
+uses_refused k f t s x h l = rw h (rw (sym l))
 
-pub uses_refused_means : (f t : Tree) (s : Shape) (r : Result Plan BuildRefusal) (y x : BuildRefusal) → Within t → r ≡ Err y → shape_in t ≡ Ok s → Linked (Err x) (columns_of f) (columns_of t) → MeantFor r f t
-uses_refused_means f t s r y x w p h l =
-    let meant = subst (ShapeIsMeant t) h (shape_meant t w) in
-    subst (λ q. MeantFor q f t) (sym p) ((λ s used shaped apart uses. l used apart uses), (λ o broken. absurd (meant.2 o broken)))
+pub uses_refused_means : (f t : Tree) (s : Shape) (x : BuildRefusal) → Within t → shape_in t ≡ Ok s → Linked (Err x) (columns_of f) (columns_of t) → MeantFor (Err x) f t
+uses_refused_means f t s x w h l = let meant = subst (ShapeIsMeant t) h (shape_meant t w) in ((λ s used shaped apart uses. l used apart uses), (λ o broken. absurd (meant.2 o broken)))
 
-pub uses_refused_why : (f t : Tree) (s : Shape) (r : Result Plan BuildRefusal) (y x : BuildRefusal) → Within t → r ≡ Err y → y ≡ x → shape_in t ≡ Ok s → DeniesFirst (Err x) (columns_of f) (columns_of t) → SaysWhy r f t
-uses_refused_why f t s r y x w p q h l =
-    let meant = subst (ShapeIsMeant t) h (shape_meant t w) in
-    subst (λ k. SaysWhy k f t) (sym p) (leaf_denied s meant.0 (subst (λ e. FirstDenied e (columns_of f) (columns_of t)) (sym q) l))
+pub uses_refused_why : (f t : Tree) (s : Shape) (x : BuildRefusal) → Within t → shape_in t ≡ Ok s → DeniesFirst (Err x) (columns_of f) (columns_of t) → SaysWhy (Err x) f t
+uses_refused_why f t s x w h l = leaf_denied s (subst (ShapeIsMeant t) h (shape_meant t w)).0 l
 
 -- the plan is made
-pub made : (k : ℕ) (f t : Tree) (plan : Plan) → plan.built ≡ true → plan.batch ≡ k → ShapeHeld (Ok plan.shape) (shape_in t) → uses_in (Ok plan.uses) ≡ link_all (columns_of f) [] (columns_of t)
+pub made : (k : ℕ) (f t : Tree) (plan : Plan) → plan.batch_size ≡ Some k → ShapeHeld (Ok plan.shape) (shape_in t) → uses_in (Ok plan.uses) ≡ link_all (columns_of f) [] (columns_of t)
     → listed plan.columns ≡ map file_column_of (columns_of f) → names_held plan.names ≡ tree_names t → PlannedAs (Ok plan) (plan_of k f t)
-made k f t plan built batch shape uses columns names = (
+made k f t plan batch shape uses columns names = (
   record { batch = k; shape = shape.0; used = used_of plan.uses; columns = map file_column_of (columns_of f); names = tree_names t },
   rw shape.1 (rw (sym uses)),
-  record { built = built; batch = batch; shape = shape.2; used = refl; columns = columns; names = names },
+  record { batch = batch; shape = shape.2; used = refl; columns = columns; names = names },
 )
 
 pub made_means : (f t : Tree) (plan : Plan) → Within t → ShapeHeld (Ok plan.shape) (shape_in t) → Linked (Ok plan.uses) (columns_of f) (columns_of t) → DistinctIn (Ok plan.uses) → MeantFor (Ok plan) f t

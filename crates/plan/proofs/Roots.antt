@@ -1,5 +1,5 @@
 -- The shape of a whole schema. Assumes nothing.
-use Rattle.std.proofs.Common.{◌≡◌, ℕ, [], ◌++◌, take, Ok, Err, Result, sym, ap, ◌∙◌, subst, append-nil}
+use Rattle.std.proofs.Common.{◌≡◌, ℕ, [], ◌++◌, Ok, Err, Result, sym, ap, ◌∙◌, subst, append-nil}
 use Rattle.schema.specs.declared.tree.Schema.{Schema}
 use Rattle.schema.specs.Schemas.{Node, group, Tree}
 use Rattle.schema.specs.Image.{size, leaves}
@@ -9,7 +9,7 @@ use Rattle.plan.specs.declared.refusal.BuildRefusal.{BuildRefusal}
 use Rattle.plan.specs.declared.shape.ShapeTable.{ShapeTable}
 use Rattle.plan.specs.Forms.{form_in, shape_in}
 use Rattle.plan.specs.Standing.{Stands}
-use Rattle.plan.specs.Flat.{flat, Appended, ShapeHeld}
+use Rattle.plan.specs.Flat.{flat, held, Appended, ShapeHeld}
 
 -- a schema as one node
 abbrev pub root_node : Tree → Node
@@ -23,11 +23,11 @@ unfolding shape_in
 shape_from t i z = ap (λ j. form_in 17 0 j (root_node t)) (sym z)
 
 -- the table that was empty holds the shape
-pub root_formed : (t : Tree) (e v : ShapeTable) (next : ℕ) → e.len ≡ 0 → e.leaves ≡ 0 → Appended e v 0 (size (root_node t)) (leaves (root_node t)) (Ok next) (form_in 17 0 e.leaves (root_node t)) → ShapeHeld (Ok v) (shape_in t)
+pub root_formed : (t : Tree) (e v : ShapeTable) (next : ℕ) → held e ≡ [] → e.leaves ≡ 0 → Appended e v 0 (size (root_node t)) (leaves (root_node t)) (Ok next) (form_in 17 0 e.leaves (root_node t)) → ShapeHeld (Ok v) (shape_in t)
 root_formed t e v next no-entries no-leaves a = (
   a.0,
   shape_from t e.leaves no-leaves ∙ a.1,
-  a.2 ∙ ap (λ n. take n e.entries ++ flat a.0) no-entries,
+  a.2 ∙ ap (λ l. l ++ flat a.0) no-entries,
 )
 
 -- or refuses as the schema does

@@ -1,8 +1,6 @@
 -- What the entry of a node tells of the rules. Assumes nothing.
-use Rattle.std.proofs.Common.{◌≡◌, ℕ, suc, ◌+◌, ◌<◌, ◌≤◌, true, false, not, ◌&&◌, ◌||◌, ◌⊎◌, Some, None, Option, sym, refl, ap, ◌∙◌, subst, ⊎_elim, one-add, arith}
-use Rattle.std.proofs.lemmas.Bool.{ne_eqb, and_left, and_right}
+use Rattle.std.proofs.Common.{◌≡◌, ℕ, ◌+◌, ◌<◌, ◌≤◌, Bool, true, false, cond, not, MatchOption, ◌&&◌, ◌||◌, Some, None, Option, sym, refl, ap, ◌∙◌, subst, one-add, arith}
 use Rattle.schema.specs.declared.entry.Body.TheVariants.{Group, Primitive}
-use Rattle.schema.specs.declared.entry.Header.{Header}
 use Rattle.schema.specs.declared.entry.Leaf.{Leaf}
 use Rattle.schema.specs.declared.entry.NodeEntry.{NodeEntry}
 use Rattle.schema.specs.declared.tree.Schema.{Schema}
@@ -10,9 +8,11 @@ use Rattle.schema.specs.Schemas.{Heading, Node, leaf, group, Nodes, none, more, 
 use Rattle.schema.specs.Image.{size, sizes, leaves, leaves_of}
 use Rattle.schema.specs.Columns.{heading}
 use Rattle.plan.specs.declared.refusal.BuildRefusal.{BuildRefusal}
-use Rattle.plan.specs.declared.refusal.BuildRefusal.TheVariants.{EmptyGroup, BadList, BadMap}
-use Rattle.plan.specs.Forms.{collection, is_collection, is_repeated, collects, is_empty, is_key, is_entry, is_middle_of_map, named_as_element, middle_is_element, repeats_only, list_rule, map_rule, fields_rule, group_rule, rule_broken, Formed, body_by, collection_by, element_by, group_by}
-use Rattle.plan.specs.Standing.{Stands, StandAll, own_row, Shows, Found, heading_of, collects_body, empty_body, key_body}
+use Rattle.plan.specs.declared.refusal.BuildRefusal.TheVariants.{EmptyGroup, BadList, BadMap, RepeatedCollection}
+use Rattle.plan.specs.declared.form.Collection.TheVariants.{ListOf, MapOf}
+use Rattle.plan.specs.declared.form.ReadNode.{ReadNode}
+use Rattle.plan.specs.Forms.{collection, is_repeated, collects, is_empty, is_key, is_entry, first_of, is_middle_of_map, middle_is_element, repeats_only, list_rule, map_rule, group_rule, rule_broken, Formed, body_by, collection_by, element_by, group_by}
+use Rattle.plan.specs.Standing.{Stands, StandAll, own_row, Shows, IsNode, FoundAt, heading_of, heading_at}
 use Rattle.plan.proofs.Places.{fields_stand, first_stands}
 
 -- a node's own row has its heading
@@ -33,68 +33,22 @@ clash {A} {n} {l} e = absurd (let z : ◌≡◌ {A = ℕ} 0 1 = cc in omega arit
 pub same_count : {m n : ℕ} → Group m ≡ Group n → m ≡ n
 same_count e = cc
 
--- element or middle, by the number of the middle's fields
-pub element_leaf : (h : Heading) (m : Node) (l : Leaf) → (own_row m).body ≡ Primitive l → middle_is_element h m ≡ true
-element_leaf h (leaf k j) l e = refl
-element_leaf h (group k xs) l e = clash e
+-- a group of one field tells by that field, which stands right after it
+pub repeats_one : (read : Schema) (at : ℕ) (m : Node) → Stands read at m → (own_row m).body ≡ Group 1 → (x : Node) × Stands read (at + 1) x × (repeats_only m ≡ is_repeated (heading x).repetition)
+repeats_one read at (leaf k j) s e = clash (sym e)
+repeats_one read at (group k none) s e = absurd (let z = same_count e in omega arith)
+repeats_one read at (group k (more x none)) s e = (x, first_stands read (at + 1) x none (fields_stand read at k (more x none) s), refl)
+repeats_one read at (group k (more x (more y ys))) s e = absurd (let z = same_count e in omega arith)
 
-pub element_many : (h : Heading) (m : Node) (n : ℕ) → (own_row m).body ≡ Group n → 2 ≤ n → middle_is_element h m ≡ true
-element_many h (leaf k j) n e many = clash (sym e)
-element_many h (group k none) n e many = absurd (let z = same_count e in omega arith)
-element_many h (group k (more x none)) n e many = absurd (let z = same_count e in omega arith)
-element_many h (group k (more x (more y ys))) n e many = refl
-
-pub element_few : (h : Heading) (m : Node) (n : ℕ) → (own_row m).body ≡ Group n → n < 2 → middle_is_element h m ≡ named_as_element h (heading m)
-element_few h (leaf k j) n e few = clash (sym e)
-element_few h (group k none) n e few = refl
-element_few h (group k (more x none)) n e few = refl
-element_few h (group k (more x (more y ys))) n e few = absurd (let z = same_count e in omega arith)
-
--- one REPEATED field only, by the number of fields and the first of them
-pub repeats_leaf : (m : Node) (l : Leaf) → (own_row m).body ≡ Primitive l → repeats_only m ≡ false
-repeats_leaf (leaf k j) l e = refl
-repeats_leaf (group k xs) l e = clash e
-
-pub repeats_other : (m : Node) (n : ℕ) → (own_row m).body ≡ Group n → (n ≡ 1 → ⊥) → repeats_only m ≡ false
-repeats_other (leaf k j) n e other = refl
-repeats_other (group k none) n e other = refl
-repeats_other (group k (more x none)) n e other = absurd (other (sym (same_count e)))
-repeats_other (group k (more x (more y ys))) n e other = refl
-
--- what is found right after a group of one field shows that field
-pub repeats_found : (read : Schema) (at : ℕ) (found : Option NodeEntry) (m : Node) → Stands read at m → (own_row m).body ≡ Group 1
-    → ((x : Node) → Stands read (at + 1) x → Found read found x) → (x : Node) × Found read found x × (repeats_only m ≡ is_repeated (heading x).repetition)
-repeats_found read at found (leaf k j) s e shows = clash (sym e)
-repeats_found read at found (group k none) s e shows = absurd (let z = same_count e in omega arith)
-repeats_found read at found (group k (more x none)) s e shows = (x, shows x (first_stands read (at + 1) x none (fields_stand read at k (more x none) s)), refl)
-repeats_found read at found (group k (more x (more y ys))) s e shows = absurd (let z = same_count e in omega arith)
-
--- the tests of an entry are those of the node that it shows
-own_collects : (x : Node) (h : Header) → h.annotation ≡ (heading x).annotation → collects_body (own_row x).body h ≡ collects x
-own_collects (leaf k l) h e = refl
-own_collects (group k xs) h e = ap (λ a. is_collection (collection a)) e
-
-own_empty : (x : Node) → empty_body (own_row x).body ≡ is_empty x
-own_empty (leaf k l) = refl
-own_empty (group k none) = refl
-own_empty (group k (more x xs)) = ne_eqb (suc (count xs)) 0 (λ e. omega arith)
-
-own_key : (x : Node) (h : Header) → h.repetition ≡ (heading x).repetition → key_body (own_row x).body h ≡ is_key x
-own_key (leaf k l) h e = ap (λ r. not (is_repeated r)) e
-own_key (group k xs) h e = refl
+-- what is tested of the node that is found where x stands
+pub found_tells : (read : Schema) (at : ℕ) (o : Option ReadNode) (x : Node) (r b : Bool) (P : ReadNode → Type 0) → FoundAt read at o → Stands read at x → MatchOption o (r ≡ false) P
+    → ((n : ReadNode) → IsNode n x → P n → r ≡ b) → r ≡ b
+found_tells read at (Some n) x r b P found s p k = k n (found.1 x s) p
+found_tells read at None x r b P found s p k = absurd (found x s)
 
 module _ (read : Schema) (e : NodeEntry) (x : Node) (shows : Shows read e x) where
   pub shown_repeated : is_repeated e.header.repetition ≡ is_repeated (heading x).repetition
   shown_repeated = ap (λ h. is_repeated h.repetition) (shown-heading read e x shows)
-
-  pub shown_collects : collects_body e.body e.header ≡ collects x
-  shown_collects = ap (λ b. collects_body b e.header) (shown_body read e x shows) ∙ own_collects x e.header (ap (λ h. h.annotation) (shown-heading read e x shows))
-
-  pub shown_empty : empty_body e.body ≡ is_empty x
-  shown_empty = ap empty_body (shown_body read e x shows) ∙ own_empty x
-
-  pub shown_key : key_body e.body e.header ≡ is_key x
-  shown_key = ap (λ b. key_body b e.header) (shown_body read e x shows) ∙ own_key x e.header (ap (λ h. h.repetition) (shown-heading read e x shows))
 
 -- one node alone
 pub alone : (xs : Nodes) → count xs ≡ 1 → (x : Node) × (xs ≡ more x none)
@@ -108,16 +62,7 @@ by_alone read at xs f r one s k =
     let a = alone xs one in
     k a.0 (first_stands read at a.0 none (subst (StandAll read at) a.1 s)) ∙ ap f (sym a.1)
 
--- the rules of a LIST group
-pub list_none : (h : Heading) (xs : Nodes) (o : Option BuildRefusal) → count xs ≡ 0 → list_rule h xs o ≡ Some EmptyGroup
-list_none h none o e = refl
-list_none h (more x xs) o e = absurd (omega arith)
-
-pub list_many : (h : Heading) (xs : Nodes) (o : Option BuildRefusal) → (count xs ≡ 0 → ⊥) → (count xs ≡ 1 → ⊥) → list_rule h xs o ≡ Some BadList
-list_many h none o ne0 ne1 = absurd (ne0 refl)
-list_many h (more x none) o ne0 ne1 = absurd (ne1 refl)
-list_many h (more x (more y ys)) o ne0 ne1 = refl
-
+-- what a LIST group is refused for
 module _ (h : Heading) (m : Node) (o : Option BuildRefusal) where
   pub list_unrepeated : is_repeated (heading m).repetition ≡ false → list_rule h (more m none) o ≡ Some BadList
   list_unrepeated a = rw a
@@ -125,46 +70,40 @@ module _ (h : Heading) (m : Node) (o : Option BuildRefusal) where
   pub list_lacks : is_repeated (heading m).repetition ≡ true → (is_empty m && not (middle_is_element h m)) ≡ true → list_rule h (more m none) o ≡ Some EmptyGroup
   list_lacks a b = rw a (rw b)
 
-  pub list_bad : is_repeated (heading m).repetition ≡ true → (is_empty m && not (middle_is_element h m)) ≡ false → (collects m || repeats_only m) ≡ true → list_rule h (more m none) o ≡ Some BadList
-  list_bad a b d = rw a (rw b (rw d))
+-- the first refusal of two
+abbrev pub over : Option BuildRefusal → Option BuildRefusal → Option BuildRefusal
+over None o = o
+over (Some e) o = Some e
 
-  pub list_good : is_repeated (heading m).repetition ≡ true → (is_empty m && not (middle_is_element h m)) ≡ false → (collects m || repeats_only m) ≡ false → list_rule h (more m none) o ≡ o
-  list_good a b d = rw a (rw b (rw d))
+over_first : (b : Bool) (e : BuildRefusal) (r o : Option BuildRefusal) → first_of b e (over r o) ≡ over (first_of b e r) o
+over_first true e r o = refl
+over_first false e r o = refl
 
--- the rules of a MAP group
-pub map_none : (xs : Nodes) (o : Option BuildRefusal) → count xs ≡ 0 → map_rule xs o ≡ Some EmptyGroup
-map_none none o e = refl
-map_none (more x xs) o e = absurd (omega arith)
+over_list : (a b d : Bool) (o : Option BuildRefusal) → cond a (first_of b EmptyGroup (first_of d BadList o)) (Some BadList) ≡ over (cond a (first_of b EmptyGroup (first_of d BadList None)) (Some BadList)) o
+over_list true true d o = refl
+over_list true false d o = over_first d BadList None o
+over_list false b d o = refl
 
+-- other rules come after those of a LIST group
+pub list_over : (h : Heading) (xs : Nodes) (o : Option BuildRefusal) → list_rule h xs o ≡ over (list_rule h xs None) o
+list_over h none o = refl
+list_over h (more m none) o = over_list (is_repeated (heading m).repetition) (is_empty m && not (middle_is_element h m)) (collects m || repeats_only m) o
+list_over h (more m (more x xs)) o = refl
+
+-- what a MAP group is refused for
 pub map_many : (xs : Nodes) (o : Option BuildRefusal) → (count xs ≡ 0 → ⊥) → (count xs ≡ 1 → ⊥) → map_rule xs o ≡ Some BadMap
 map_many none o ne0 ne1 = absurd (ne0 refl)
 map_many (more x none) o ne0 ne1 = absurd (ne1 refl)
 map_many (more x (more y ys)) o ne0 ne1 = refl
 
-pub map_good : (m : Node) (o : Option BuildRefusal) → is_middle_of_map m ≡ true → map_rule (more m none) o ≡ o
-map_good m o a = rw a
-
 pub map_bad : (m : Node) (o : Option BuildRefusal) → is_middle_of_map m ≡ false → map_rule (more m none) o ≡ Some BadMap
 map_bad m o a = rw a
 
--- a map's middle, by what its entry and the next one show
-pub middle_leaf : (m : Node) (l : Leaf) → (own_row m).body ≡ Primitive l → is_middle_of_map m ≡ false
-middle_leaf (leaf k j) l e = refl
-middle_leaf (group k xs) l e = clash e
-
-no_entry : (xs : Nodes) → (count xs ≡ 0) ⊎ (2 < count xs) → is_entry xs ≡ false
-no_entry none c = refl
-no_entry (more x none) c = absurd (⊎_elim (λ z. omega arith) (λ z. omega arith) c)
-no_entry (more x (more y none)) c = absurd (⊎_elim (λ z. omega arith) (λ z. omega arith) c)
-no_entry (more x (more y (more z zs))) c = refl
-
-pub middle_count : (m : Node) (n : ℕ) → (own_row m).body ≡ Group n → (n ≡ 0) ⊎ (2 < n) → is_middle_of_map m ≡ false
-middle_count (leaf k j) n e c = refl
-middle_count (group k xs) n e c = and_right (is_repeated k.repetition) (is_entry xs) (no_entry xs (subst (λ i. (i ≡ 0) ⊎ (2 < i)) (sym (same_count e)) c))
-
-pub middle_unrepeated : (m : Node) → is_repeated (heading m).repetition ≡ false → is_middle_of_map m ≡ false
-middle_unrepeated (leaf k j) a = refl
-middle_unrepeated (group k xs) a = and_left (is_repeated k.repetition) (is_entry xs) a
+-- other rules come after those of a MAP group
+pub map_over : (xs : Nodes) (o : Option BuildRefusal) → map_rule xs o ≡ over (map_rule xs None) o
+map_over none o = refl
+map_over (more m none) o = over_first (not (is_middle_of_map m)) BadMap None o
+map_over (more m (more x xs)) o = refl
 
 key_first : (x : Node) (xs : Nodes) → (2 < count (more x xs) → ⊥) → is_entry (more x xs) ≡ is_key x
 key_first x none few = refl
@@ -180,11 +119,6 @@ middle_key read at (group k (more x xs)) n s e some few rep = (
   first_stands read (at + 1) x xs (fields_stand read at k (more x xs) s),
   ap (λ b. b && is_entry (more x xs)) rep ∙ key_first x xs (λ z. let c = same_count e in omega arith),
 )
-
--- the rules of a node by its entry
-pub rule_leaf : (x : Node) (l : Leaf) → (own_row x).body ≡ Primitive l → rule_broken x ≡ None
-rule_leaf (leaf k j) l e = refl
-rule_leaf (group k xs) l e = clash e
 
 -- a group by its entry: its fields, and its rules by the header
 pub record Grouped (read : Schema) (at : ℕ) (e : NodeEntry) (x : Node) (n : ℕ) : Type 0 where
@@ -212,10 +146,33 @@ grouped read at e (group k xs) n s v b =
       elemented = λ one n i. refl;
     }
 
-pub fields_none : (xs : Nodes) → count xs ≡ 0 → fields_rule xs ≡ Some EmptyGroup
-fields_none none e = refl
-fields_none (more x xs) e = absurd (omega arith)
+-- a group that has fields, by its node of a read schema
+pub record Fielded (n : ReadNode) (x : Node) (k : ℕ) : Type 0 where
+  pub first : Node
+  pub others : Nodes
+  pub counted : k ≡ 1 + count others
+  pub stand : StandAll n.read.now (n.at + 1) (more first others)
+  pub rule : rule_broken x ≡ group_rule (collection n.shown.header.annotation) (heading_at n) (more first others)
 
-pub fields_some : (xs : Nodes) → (count xs ≡ 0 → ⊥) → fields_rule xs ≡ None
-fields_some none ne = absurd (ne refl)
-fields_some (more x xs) ne = refl
+some_fielded : (n : ReadNode) (x : Node) (k : ℕ) (xs : Nodes) → k ≡ count xs → (k ≡ 0 → ⊥) → StandAll n.read.now (n.at + 1) xs
+    → rule_broken x ≡ group_rule (collection n.shown.header.annotation) (heading_at n) xs → Fielded n x k
+some_fielded n x k none e some s r = absurd (some e)
+some_fielded n x k (more y ys) e some s r = record { first = y; others = ys; counted = e ∙ sym (one-add (count ys)); stand = s; rule = r }
+
+pub fielded : (n : ReadNode) (x : Node) (k : ℕ) → IsNode n x → n.shown.body ≡ Group k → (k ≡ 0 → ⊥) → Fielded n x k
+fielded n x k v b some = let g = grouped n.read.now n.at n.shown x k v.stands v.shows b in some_fielded n x k g.fields g.counted some g.stand g.rule
+
+-- its rules, where those of its annotation answer r
+module _ (n : ReadNode) (x : Node) (k : ℕ) (f : Fielded n x k) (r : Option BuildRefusal) where
+  abbrev pub repeated : Option BuildRefusal
+  repeated = first_of (is_repeated n.shown.header.repetition) RepeatedCollection None
+
+  pub list_told : ListOf ≡ collection n.shown.header.annotation → r ≡ list_rule (heading_at n) (more f.first f.others) None → over r repeated ≡ rule_broken x
+  list_told is e =
+      ap (λ q. over q repeated) e ∙ sym (list_over (heading_at n) (more f.first f.others) repeated)
+      ∙ ap (λ c. group_rule c (heading_at n) (more f.first f.others)) is ∙ sym f.rule
+
+  pub map_told : MapOf ≡ collection n.shown.header.annotation → r ≡ map_rule (more f.first f.others) None → over r repeated ≡ rule_broken x
+  map_told is e =
+      ap (λ q. over q repeated) e ∙ sym (map_over (more f.first f.others) repeated)
+      ∙ ap (λ c. group_rule c (heading_at n) (more f.first f.others)) is ∙ sym f.rule

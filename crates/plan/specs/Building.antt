@@ -1,11 +1,12 @@
 -- What building a plan answers. Assumes nothing.
-use Rattle.std.specs.Prelude.{◌≡◌, ℕ, ◌≤◌, Bool, true, cond, ◌&&◌, List, [], ◌∷◌, map, Some, None, Ok, Err, Option, Result, nat_le}
+use Rattle.std.specs.Prelude.{◌≡◌, ℕ, ◌≤◌, Bool, cond, ◌&&◌, List, [], ◌∷◌, map, Some, Ok, Err, Option, Result, nat_le}
 use Rattle.schema.specs.declared.refusal.ImageRefusal.{ImageRefusal}
+use Rattle.schema.specs.declared.tree.Schema.{Schema}
 use Rattle.schema.specs.Schemas.{Tree}
 use Rattle.schema.specs.Image.{image, Within}
 use Rattle.schema.specs.Reading.{schema_in}
 use Rattle.schema.specs.Columns.{columns_of}
-use Rattle.schema.specs.Answering.{tree_rows}
+use Rattle.schema.specs.Answering.{Holds, tree_rows}
 use Rattle.plan.specs.declared.build.Plan.{Plan}
 use Rattle.plan.specs.declared.columns.FileColumn.{FileColumn}
 use Rattle.plan.specs.declared.link.UsedColumn.{UsedColumn}
@@ -64,16 +65,19 @@ build_in k file read = cond (is_batch_size k) (with_schema (schema_in file) (λ 
 
 -- the batch size of a plan that is built
 abbrev pub size_of : Plan → Option ℕ
-size_of plan = cond plan.built (Some plan.batch) None
+size_of plan = plan.batch_size
 
 -- a plan holds a value
 pub record PlanHeld (plan : Plan) (p : Planned) : Type 0 where
-  pub built : plan.built ≡ true
-  pub batch : plan.batch ≡ p.batch
+  pub batch : plan.batch_size ≡ Some p.batch
   pub shape : held plan.shape ≡ flat p.shape
   pub used : used_of plan.uses ≡ p.used
   pub columns : listed plan.columns ≡ p.columns
   pub names : names_held plan.names ≡ p.names
+
+-- a statement over a file's schema and a read one, for those that two tables hold, the read one within the limits
+abbrev pub ForBoth : Schema → Schema → (Tree → Tree → Type 0) → Type 0
+ForBoth file read P = (f t : Tree) → Within t → Holds file f → Holds read t → P f t
 
 -- the answer of building from two schemas
 abbrev pub PlannedAs : Result Plan BuildRefusal → Result Planned BuildRefusal → Type 0

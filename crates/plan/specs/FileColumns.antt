@@ -1,5 +1,5 @@
 -- What is known of every column of a file. Assumes nothing.
-use Rattle.std.specs.Prelude.{List, map, take}
+use Rattle.std.specs.Prelude.{List, map}
 use Rattle.schema.specs.declared.column.Column.{Column}
 use Rattle.schema.specs.Columns.{ColumnOf, parts}
 use Rattle.plan.specs.declared.columns.FileColumn.{FileColumn}
@@ -31,4 +31,4 @@ file_column_of c =
 
 -- the columns that a table lists
 abbrev pub listed : FileColumns → List FileColumn
-listed t = take t.len t.columns
+listed t = t.columns.items

@@ -1,5 +1,5 @@
 -- How a table holds a shape. Assumes nothing.
-use Rattle.std.specs.Prelude.{◌≡◌, ℕ, ◌+◌, ◌*◌, ◌<◌, ◌≤◌, List, [], ◌∷◌, ◌++◌, length, take, Ok, Err, Result, slice_set}
+use Rattle.std.specs.Prelude.{◌≡◌, ℕ, ◌+◌, ◌*◌, ◌<◌, ◌≤◌, List, [], ◌∷◌, ◌++◌, length, Ok, Err, Result}
 use Rattle.basic.specs.declared.types.Repetition.{Repetition}
 use Rattle.basic.specs.declared.types.Repetition.TheVariants.{Required, Optional, Repeated}
 use Rattle.plan.specs.declared.refusal.BuildRefusal.{BuildRefusal}
@@ -29,11 +29,11 @@ flat (s & t) = flat s ++ flat t
 
 -- the entries that a table holds
 abbrev pub held : ShapeTable → List ShapeEntry
-held t = take t.len t.entries
+held t = t.entries.items
 
 -- a table with one entry more
 abbrev pub pushed : ShapeTable → Form → ℕ → ShapeTable
-pushed t f n = record { entries = slice_set t.entries t.len (entry f n t.leaves); len = t.len + 1; leaves = t.leaves }
+pushed t f n = record { entries = record { items = held t ++ entry f n t.leaves ∷ [] }; leaves = t.leaves }
 
 -- a table with what a repetition puts before a node
 abbrev pub wrapped_table : Repetition → ShapeTable → ℕ → ShapeTable
@@ -41,15 +41,9 @@ wrapped_table Required t n = t
 wrapped_table Optional t n = pushed t OptionalForm n
 wrapped_table Repeated t n = pushed t ListForm n
 
--- where a repetition puts something before a node, there is room for it
-abbrev pub WrapRoom : Repetition → ShapeTable → Type 0
-WrapRoom Required t = Unit {0}
-WrapRoom Optional t = t.len < length t.entries
-WrapRoom Repeated t = t.len < length t.entries
-
 -- a table with one leaf more
 abbrev pub leaf_table : ShapeTable → ℕ → ShapeTable
-leaf_table t n = record { entries = slice_set t.entries t.len (entry Leaf n t.leaves); len = t.len + 1; leaves = t.leaves + 1 }
+leaf_table t n = record { entries = (pushed t Leaf n).entries; leaves = t.leaves + 1 }
 
 -- the table t became v where a part of so many nodes and leaves was formed as o, and the next part begins at the place answered
 abbrev pub Appended : ShapeTable → ShapeTable → ℕ → ℕ → ℕ → Result ℕ BuildRefusal → Formed → Type 0
@@ -58,7 +52,12 @@ Appended t v at nodes few (Err e) o = o ≡ Err e
 
 -- a table is roomy at a place: two entries and one leaf for each node before it
 pub record Roomy (t : ShapeTable) (at : ℕ) : Type 0 where
-  pub entries : t.len ≤ 2 * at
+  pub entries : length (held t) ≤ 2 * at
+  pub leaves : t.leaves ≤ at
+
+-- a table where a node at a place is begun: what comes before the node may have one entry more
+pub record Begun (t : ShapeTable) (at : ℕ) : Type 0 where
+  pub entries : length (held t) ≤ 2 * at + 1
   pub leaves : t.leaves ≤ at
 
 -- after an answer it is roomy at the place answered, which lies further on

@@ -1,5 +1,5 @@
 -- What a leaf is shown as, and how its values are delivered. Assumes nothing.
-use Rattle.std.specs.Prelude.{◌≡◌, ℕ, Bool, true, false, cond, ◌&&◌, List, [], ◌∷◌, Some, None, Option, ◌==◌}
+use Rattle.std.specs.Prelude.{◌≡◌, ℕ, Bool, true, false, cond, ◌&&◌, List, [], ◌∷◌, Some, None, Option, ◌==◌, codes}
 use Rattle.basic.specs.declared.types.PhysicalType.{PhysicalType}
 use Rattle.basic.specs.declared.types.PhysicalType.TheVariants as physical
 use Rattle.basic.specs.declared.types.ConvertedType.{ConvertedType}
@@ -37,6 +37,33 @@ field_number field.TimestampMicros = 20
 field_number field.Group = 21
 field_number field.ListInternal = 22
 field_number field.MapInternal = 23
+
+-- the name of a field's kind
+abbrev pub field_name : FieldKind → List ℕ
+field_name field.Null = codes "Null"
+field_name field.Bool = codes "Bool"
+field_name field.Byte = codes "Byte"
+field_name field.Short = codes "Short"
+field_name field.Int = codes "Int"
+field_name field.Long = codes "Long"
+field_name field.UByte = codes "UByte"
+field_name field.UShort = codes "UShort"
+field_name field.UInt = codes "UInt"
+field_name field.ULong = codes "ULong"
+field_name field.Float16 = codes "Float16"
+field_name field.Float = codes "Float"
+field_name field.Double = codes "Double"
+field_name field.Decimal = codes "Decimal"
+field_name field.Str = codes "Str"
+field_name field.Bytes = codes "Bytes"
+field_name field.Date = codes "Date"
+field_name field.TimeMillis = codes "TimeMillis"
+field_name field.TimeMicros = codes "TimeMicros"
+field_name field.TimestampMillis = codes "TimestampMillis"
+field_name field.TimestampMicros = codes "TimestampMicros"
+field_name field.Group = codes "Group"
+field_name field.ListInternal = codes "ListInternal"
+field_name field.MapInternal = codes "MapInternal"
 
 -- values of both byte array types are delivered as runs of bytes, those of INT96 as they are, all others as words
 abbrev pub value_kind : PhysicalType → ValueKind

@@ -1,5 +1,7 @@
 -- Which file column each read leaf uses, and which rule refuses first. Assumes nothing.
-use Rattle.std.specs.Prelude.{◌≡◌, ℕ, ◌+◌, ◌<◌, ◌≤◌, Bool, true, false, cond, ◌&&◌, ◌||◌, List, [], ◌∷◌, ◌++◌, map, length, get_or, take, drop, Some, None, Ok, Err, Option, Result, ◌==◌, ◌≢◌, slice_index, slice_index_or, slice_set}
+use Rattle.std.specs.Prelude.{◌≡◌, ℕ, ◌+◌, ◌<◌, ◌≤◌, Bool, cond, List, [], ◌∷◌, ◌++◌, map, length, get_or, drop, Some, None, Ok, Err, Option, Result, ◌==◌, ◌≢◌, slice_index, slice_index_or}
+use Rattle.std.specs.List.{list_any}
+use Rattle.std.specs.Cmp.Lexicographic.{pointwise}
 use Rattle.basic.specs.declared.types.Repetition.{Repetition}
 use Rattle.basic.specs.declared.types.ConvertedType.{ConvertedType}
 use Rattle.basic.specs.Codes.{repetition_code}
@@ -23,10 +25,7 @@ use Rattle.plan.specs.Kinds.{shown_kind}
 
 -- whether two lists are as long as each other and the same part by part
 abbrev pub same_parts : {A : Type 0} → (A → A → Bool) → List A → List A → Bool
-same_parts same [] [] = true
-same_parts same [] (y ∷ ys) = false
-same_parts same (x ∷ xs) [] = false
-same_parts same (x ∷ xs) (y ∷ ys) = same x y && same_parts same xs ys
+same_parts same xs ys = pointwise same xs ys
 
 -- the names along some headings
 abbrev pub names : List Heading → List (List ℕ)
@@ -82,8 +81,7 @@ Highest None columns path = (k : ℕ) → HasPath columns path k → ⊥
 
 -- whether one of some columns has this path
 abbrev pub any_on : List ColumnOf → List (List ℕ) → Bool
-any_on [] path = false
-any_on (c ∷ cs) path = same_path (path_names c) path || any_on cs path
+any_on columns path = list_any (λ c. same_path (path_names c) path) columns
 
 -- the column of this number, if it has a conversion
 abbrev pub shown_as : ℕ → Option FieldKind → Result UsedColumn BuildRefusal
@@ -167,16 +165,11 @@ Distinct used = (i j : ℕ) → i < j → j < length used → slice_index (map (
 
 -- the headers of the path so far
 abbrev pub parts_of : Path → List Header
-parts_of p = take p.len p.headers
+parts_of p = p.headers.items
 
 -- one node longer
 abbrev pub entered : Path → Header → Path
-entered p h = record { headers = slice_set p.headers p.len h; len = p.len + 1 }
-
--- as long as it was, with the same parts
-pub record Kept (old new : Path) : Type 0 where
-  pub len : new.len ≡ old.len
-  pub parts : parts_of new ≡ parts_of old
+entered p h = record { headers = record { items = parts_of p ++ h ∷ [] } }
 
 -- what headers stand for, over the bytes of a schema
 abbrev pub headings_of : Schema → List Header → List Heading
@@ -184,17 +177,11 @@ headings_of s hs = map (headed s.image.now) hs
 
 -- the columns used so far
 abbrev pub used_of : Uses → List UsedColumn
-used_of u = take u.len u.columns
+used_of u = u.columns.items
 
 -- whether a column is used
 abbrev pub is_used : List UsedColumn → ℕ → Bool
-is_used [] n = false
-is_used (u ∷ us) n = u.column == n || is_used us n
-
--- one column more, where there is room for it
-abbrev pub Pushed : Result Unit BuildRefusal → UsedColumn → Uses → Uses → Type 0
-Pushed (Ok _) used old new = used_of new ≡ used_of old ++ used ∷ []
-Pushed (Err e) used old new = 64 ≤ length (used_of old)
+is_used us n = list_any (λ u. u.column == n) us
 
 -- what a step of linking came to: the columns used by then, or a refusal
 abbrev pub came_to : {A : Type 0} → Result A BuildRefusal → Uses → Result (List UsedColumn) BuildRefusal
@@ -215,7 +202,7 @@ Follow (Err e) read after = Unit {0}
 -- before a visit: at this place of the read table stand nodes, so many levels deep, and the columns before theirs are linked
 pub record Before (file read : Schema) (path : Path) (uses : Uses) (at : ℕ) (here after : List Row) (deep : ℕ) (earlier columns : List ColumnOf) : Type 0 where
   pub stand : drop at (seen_rows read) ≡ here ++ after
-  pub flat : path.len + deep ≤ 16
+  pub flat : length (parts_of path) + deep ≤ 16
   pub few : length earlier + length columns ≤ 64
   pub linked : link_all (seen_columns file) [] earlier ≡ Ok (used_of uses)
 

@@ -1,5 +1,5 @@
 -- What a read schema shows of a node. Assumes nothing.
-use Rattle.std.specs.Prelude.{◌≡◌, ℕ, Bool, false, not, List, ◌++◌, drop, Some, None, Option, ◌==◌}
+use Rattle.std.specs.Prelude.{◌≡◌, ℕ, Bool, false, List, ◌++◌, drop, Some, None, Option, ◌==◌}
 use Rattle.schema.specs.declared.entry.NodeEntry.{NodeEntry}
 use Rattle.schema.specs.declared.entry.Header.{Header}
 use Rattle.schema.specs.declared.entry.Body.{Body}
@@ -9,7 +9,7 @@ use Rattle.schema.specs.Schemas.{Heading, Node, leaf, group, Nodes, count}
 use Rattle.schema.specs.Places.{headed}
 use Rattle.schema.specs.Tables.{Row, rows, rows_of, row}
 use Rattle.schema.specs.Answering.{seen_rows}
-use Rattle.plan.specs.Forms.{collection, is_collection, is_repeated}
+use Rattle.plan.specs.declared.form.ReadNode.{ReadNode}
 
 -- the node x stands at a place of the read schema
 abbrev pub Stands : Schema → ℕ → Node → Type 0
@@ -28,41 +28,23 @@ own_row (group h xs) = record { heading = h; body = Group (count xs) }
 abbrev pub Shows : Schema → NodeEntry → Node → Type 0
 Shows read e x = row read.image.now e ≡ own_row x
 
--- what was found there shows it
-abbrev pub Found : Schema → Option NodeEntry → Node → Type 0
-Found read (Some e) x = Shows read e x
-Found read None x = ⊥
-
 -- the heading that a header of the schema stands for
 abbrev pub heading_of : Schema → Header → Heading
 heading_of read h = headed read.image.now h
 
--- a body under a header is a collection if it is a group annotated so
-abbrev pub collects_body : Body → Header → Bool
-collects_body (Group n) h = is_collection (collection h.annotation)
-collects_body (Primitive l) h = false
+-- a node of a read schema is the node x: x stands there, and the entry shows it
+pub record IsNode (n : ReadNode) (x : Node) : Type 0 where
+  pub stands : Stands n.read.now n.at x
+  pub shows : Shows n.read.now n.shown x
 
--- an entry is a collection
-abbrev pub collects_entry : NodeEntry → Bool
-collects_entry e = collects_body e.body e.header
+-- what was found at a place is the node that stands there
+abbrev pub FoundAt : Schema → ℕ → Option ReadNode → Type 0
+FoundAt read at (Some n) = (n.at ≡ at) × ((x : Node) → Stands read at x → IsNode n x)
+FoundAt read at None = (x : Node) → Stands read at x → ⊥
 
--- a body is a group without fields
-abbrev pub empty_body : Body → Bool
-empty_body (Group n) = n == 0
-empty_body (Primitive l) = false
-
--- an entry is a group without fields
-abbrev pub empty_entry : NodeEntry → Bool
-empty_entry e = empty_body e.body
-
--- a body under a header is a leaf that is not REPEATED
-abbrev pub key_body : Body → Header → Bool
-key_body (Group n) h = false
-key_body (Primitive l) h = not (is_repeated h.repetition)
-
--- an entry is one
-abbrev pub key_entry : NodeEntry → Bool
-key_entry e = key_body e.body e.header
+-- the heading of a node of a read schema
+abbrev pub heading_at : ReadNode → Heading
+heading_at n = heading_of n.read.now n.shown.header
 
 -- a body is a group of two fields
 abbrev pub two_fields : Body → Bool

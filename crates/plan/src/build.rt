@@ -1,15 +1,12 @@
 // A plan: what reading rows needs to know, built from two schema images.
-ghost use Rattle.std.specs.Prelude.{◌≡◌, ◌<◌, ◌≤◌, false, [], length, MatchOption, slice_index_or};
-ghost use Rattle.schema.specs.Schemas.{Tree};
-ghost use Rattle.schema.specs.Image.{Within};
-ghost use Rattle.schema.specs.Answering.{Holds};
+ghost use Rattle.std.specs.Prelude.{◌≡◌, ◌<◌, ◌≤◌, [], length, MatchOption, slice_index_or};
 ghost use Rattle.plan.specs.Flat.{held};
 ghost use Rattle.plan.specs.Links.{used_of};
 ghost use Rattle.plan.specs.FileColumns.{listed};
 ghost use Rattle.plan.specs.Pool.{names_held};
 ghost use Rattle.plan.specs.Samples.{ShapeExamples};
 ghost use Rattle.plan.specs.LinkSamples.{LinkExamples, BuildExamples};
-ghost use Rattle.plan.specs.Building.{read_or, plan_of, PlannedAs, MeantFor, Built, Means, size_of, SaysWhy, Explains};
+ghost use Rattle.plan.specs.Building.{read_or, plan_of, ForBoth, PlannedAs, MeantFor, Built, Means, size_of, SaysWhy, Explains};
 
 use crate::columns::{FileColumn, FileColumns};
 use crate::link::{UsedColumn, Uses, link};
@@ -21,11 +18,10 @@ use schema::Schema;
 /// The greatest batch size.
 const MAX_BATCH: u64 = 16;
 
-/// The shape of rows, the columns that they use, what is known of every file column, and the read nodes' names.
+/// The batch size of a built plan, the shape of rows, the columns that they use, what is known of every file column, and the read nodes' names.
 #[derive(Drop)]
 pub struct Plan {
-    built: bool,
-    batch: u64,
+    batch_size: Option<u64>,
     shape: ShapeTable,
     uses: Uses,
     columns: FileColumns,
@@ -40,16 +36,15 @@ fn read_or<'a>(file: &'a [u8], read: &'a [u8]) -> &'a [u8]
 }
 
 /// The plan of a file's schema and a read one, or the first refusal.
-fn planned(batch: u64, file: &Schema<'_>, read: &Schema<'_>) -> Result<Plan, BuildRefusal>
-    ensures plans { (f t : Tree) → Within t → Holds file.now f → Holds read.now t → PlannedAs result (plan_of batch f t) }
-    ensures means { (f t : Tree) → Within t → Holds file.now f → Holds read.now t → MeantFor result f t }
-    ensures says_why { (f t : Tree) → Within t → Holds file.now f → Holds read.now t → SaysWhy result f t }
+fn planned(batch_size: u64, file: &Schema<'_>, read: &Schema<'_>) -> Result<Plan, BuildRefusal>
+    ensures plans { ForBoth file.now read.now (λ f t. PlannedAs result (plan_of batch_size f t)) }
+    ensures means { ForBoth file.now read.now (λ f t. MeantFor result f t) }
+    ensures says_why { ForBoth file.now read.now (λ f t. SaysWhy result f t) }
 {
     let shape = ShapeTable::of(read)?;
     let uses = link(read, file)?;
     Ok(Plan {
-        built: true,
-        batch,
+        batch_size: Some(batch_size),
         shape,
         uses,
         columns: FileColumns::of(file),
@@ -60,15 +55,14 @@ fn planned(batch: u64, file: &Schema<'_>, read: &Schema<'_>) -> Result<Plan, Bui
 impl Plan {
     /// A plan that was not built yet.
     pub fn new() -> Plan
-        ensures unbuilt { result.built ≡ false }
+        ensures unbuilt { result.batch_size ≡ None }
         ensures shape { held result.shape ≡ [] }
         ensures used { used_of result.uses ≡ [] }
         ensures columns { listed result.columns ≡ [] }
         ensures names { names_held result.names ≡ [] }
     {
         Plan {
-            built: false,
-            batch: 0,
+            batch_size: None,
             shape: ShapeTable::empty(),
             uses: Uses::new(),
             columns: FileColumns::empty(),
@@ -94,13 +88,9 @@ impl Plan {
             return Err(BuildRefusal::BatchSize);
         }
         let mut file = Schema::new();
-        if let Err(refusal) = file.read(file_image) {
-            return Err(BuildRefusal::Image(refusal));
-        }
+        file.read(file_image)?;
         let mut read = Schema::new();
-        if let Err(refusal) = read.read(read_or(file_image, read_image)) {
-            return Err(BuildRefusal::Image(refusal));
-        }
+        read.read(read_or(file_image, read_image))?;
         *self = planned(batch_size, &file, &read)?;
         Ok(())
     }
@@ -109,7 +99,7 @@ impl Plan {
     pub fn batch_size(&self) -> Option<u64>
         ensures { result ≡ size_of self.now }
     {
-        if self.built { Some(self.batch) } else { None }
+        self.batch_size
     }
 
     /// The shape of the rows in preorder.

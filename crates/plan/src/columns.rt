@@ -1,15 +1,16 @@
 // What is known of every column of a file.
-ghost use Rattle.std.specs.Prelude.{◌≡◌, ◌+◌, ◌<◌, ◌≤◌, [], ◌∷◌, ◌++◌, map, length};
+ghost use Rattle.std.specs.Prelude.{◌≡◌, ◌≤◌, [], map, length};
 ghost use Rattle.schema.specs.Answering.{columns_in};
 ghost use Rattle.plan.specs.FileColumns.{file_column, listed};
 
 use crate::kind::ValueKind;
 use crate::link::last_annotation;
+use arrayvec::ArrayVec;
 use basic::{ConvertedType, PhysicalType};
 use schema::{Column, MAX_LEAVES, Schema};
 
 /// A column of a file, whether rows use it or not.
-#[derive(Clone, Copy)]
+#[derive(Clone, Copy, Default)]
 pub struct FileColumn {
     /// How its values are delivered.
     pub kind: ValueKind,
@@ -22,25 +23,16 @@ pub struct FileColumn {
 /// The columns of a file, in order.
 #[derive(Drop)]
 pub(crate) struct FileColumns {
-    columns: [FileColumn; MAX_LEAVES],
-    len: usize,
+    columns: ArrayVec<FileColumn, MAX_LEAVES>,
 }
 
-const UNUSED: FileColumn = FileColumn {
-    kind: ValueKind::Word,
-    max_def_level: 0,
-    max_rep_level: 0,
-    physical: PhysicalType::Boolean,
-    annotation: None,
-};
+/// What is known of a column of a schema.
+impl From<&Column> for FileColumn {
+    ghost from_gives = { λ column known. known ≡ file_column column.now };
 
-impl FileColumn {
-    /// What is known of a column of a schema.
-    fn of(column: &Column) -> FileColumn
-        ensures { result ≡ file_column column.now }
-    {
+    fn from(column: &Column) -> FileColumn {
         FileColumn {
-            kind: ValueKind::of(column.leaf.physical),
+            kind: ValueKind::from(column.leaf.physical),
             max_def_level: column.max_def_level,
             max_rep_level: column.max_rep_level,
             physical: column.leaf.physical,
@@ -52,11 +44,10 @@ impl FileColumn {
 impl FileColumns {
     /// No columns.
     pub(crate) fn empty() -> FileColumns
-        ensures { (listed result ≡ []) × (result.len ≡ 0) }
+        ensures { listed result ≡ [] }
     {
         FileColumns {
-            columns: [UNUSED; MAX_LEAVES],
-            len: 0,
+            columns: ArrayVec::new(),
         }
     }
 
@@ -64,20 +55,11 @@ impl FileColumns {
     pub(crate) fn of(file: &Schema) -> FileColumns
         ensures columns { listed result ≡ map file_column (columns_in file.now) }
     {
-        let mut table = FileColumns::empty();
+        let mut columns = ArrayVec::new();
         for column in file.columns() {
-            table.push(FileColumn::of(column));
+            columns.push(FileColumn::from(column));
         }
-        table
-    }
-
-    fn push(&mut self, column: FileColumn)
-        requires { self.old.len < 64 }
-        ensures columns { listed self.new ≡ listed self.old ++ column ∷ [] }
-        ensures longer { self.new.len ≡ self.old.len + 1 }
-    {
-        self.columns[self.len] = column;
-        self.len += 1;
+        FileColumns { columns }
     }
 
     /// The columns in order.
@@ -85,6 +67,6 @@ impl FileColumns {
         ensures columns { result.now ≡ listed self.now }
         ensures few { length result.now ≤ 64 }
     {
-        &self.columns[0..self.len.min(MAX_LEAVES)]
+        self.columns.as_slice()
     }
 }

@@ -1,26 +1,24 @@
 // The rules that a read node keeps or breaks.
-ghost use Rattle.std.specs.Prelude.{◌≡◌, ℕ, ◌+◌, ◌^◌, ◌<◌, ◌≤◌, Bool, not, ◌&&◌, ◌||◌, OnSome};
-ghost use Rattle.schema.specs.Schemas.{Node, Nodes, count as fields_of};
-ghost use Rattle.plan.specs.Forms.{collection, is_repeated, collects, named_as_element, is_empty, middle_is_element, repeats_only, is_middle_of_map, list_rule, map_rule, rule_broken};
-ghost use Rattle.plan.specs.Standing.{Stands, StandAll, Shows, Found, heading_of, collects_entry, empty_entry, key_entry};
+ghost use Rattle.std.specs.Prelude.{◌≡◌, ◌<◌};
+ghost use Rattle.plan.specs.Forms.{collection};
 
 use crate::refusal::BuildRefusal;
 use basic::{ConvertedType, Repetition};
-use schema::{Body, Header, NodeEntry, Schema};
+use schema::{Body, NodeEntry, Schema};
 
 /// What a group's annotation makes of it.
-#[derive(Clone, Copy)]
+#[derive(Clone, Copy, PartialEq, Eq)]
 pub(crate) enum Collection {
     ListOf,
     MapOf,
     Plain,
 }
 
-impl Collection {
-    /// What an annotation makes of a group.
-    pub(crate) fn of(annotation: Option<ConvertedType>) -> Collection
-        ensures { result ≡ collection annotation }
-    {
+/// What an annotation makes of a group.
+impl From<Option<ConvertedType>> for Collection {
+    ghost from_gives = { λ annotation made. made ≡ collection annotation };
+
+    fn from(annotation: Option<ConvertedType>) -> Collection {
         match annotation {
             Some(ConvertedType::List) => Collection::ListOf,
             Some(ConvertedType::Map | ConvertedType::MapKeyValue) => Collection::MapOf,
@@ -29,225 +27,183 @@ impl Collection {
     }
 }
 
-fn is_repeated(repetition: Repetition) -> bool
-    ensures { result ≡ is_repeated repetition }
-{
-    matches!(repetition, Repetition::Repeated)
+/// A node of a read schema: where it stands, and what stands there.
+#[derive(Clone, Copy)]
+pub(crate) struct ReadNode<'a> {
+    pub(crate) read: &'a Schema<'a>,
+    pub(crate) at: usize,
+    pub(crate) shown: NodeEntry,
+    ghost few: { at < 256 },
 }
 
-/// The entry of the read node at a place.
-pub(crate) fn entry_at(read: &Schema, at: usize) -> Option<NodeEntry>
-    ensures shows { (x : Node) → Stands read.now at x → Found read.now result x }
-    ensures few { OnSome result (at < 256) }
-{
-    let nodes = read.nodes();
-    if at < nodes.len() {
-        Some(nodes[at])
-    } else {
-        None
-    }
-}
+impl<'a> ReadNode<'a> {
+    ghost use Rattle.std.specs.Prelude.{◌+◌, None, not, ◌&&◌, ◌||◌};
+    ghost use Rattle.std.specs.Result.{result_err};
+    ghost use Rattle.schema.specs.Columns.{heading};
+    ghost use Rattle.schema.specs.Schemas.{Node, Nodes, more as more_nodes, count as fields_of};
+    ghost use Rattle.plan.specs.Forms.{is_repeated, collects, named_as_element, is_empty, is_key, middle_is_element, repeats_only, is_middle_of_map, list_rule, map_rule, rule_broken};
+    ghost use Rattle.plan.specs.Standing.{StandAll, IsNode, FoundAt, heading_at, two_fields};
 
-/// Whether an entry is a group annotated LIST, MAP or MAP_KEY_VALUE.
-fn is_collection(entry: NodeEntry) -> bool
-    ensures { result ≡ collects_entry entry }
-{
-    match entry.body {
-        Body::Primitive(_) => false,
-        Body::Group(_) => !matches!(Collection::of(entry.header.annotation), Collection::Plain),
+    /// The node at a place of a read schema.
+    pub(crate) fn find(read: &'a Schema<'a>, at: usize) -> Option<ReadNode<'a>>
+        ensures { FoundAt read.now at result }
+    {
+        let shown = read.nodes().get(at).copied()?;
+        Some(ReadNode { read, at, shown })
     }
-}
 
-/// Whether a list's middle is named `array`, or as the list with `_tuple`.
-fn is_named_as_element(read: &Schema, list: Header, middle: Header) -> bool
-    ensures { result ≡ named_as_element (heading_of read.now list) (heading_of read.now middle) }
-{
-    let name = read.text(middle.name);
-    if name == b"array".as_slice() {
-        return true;
+    /// The node at the place after it.
+    pub(crate) fn next(self) -> Option<ReadNode<'a>>
+        ensures { FoundAt self.entry.read.now (self.entry.at + 1) result }
+    {
+        ReadNode::find(self.read, self.at + 1)
     }
-    match name.strip_suffix(b"_tuple") {
-        Some(front) => front == read.text(list.name),
-        None => false,
-    }
-}
 
-/// Whether a list's element is its middle itself, and not the middle's one field.
-pub(crate) fn middle_is_element(read: &Schema, list: Header, middle: NodeEntry) -> bool
-    ensures { (m : Node) → Shows read.now middle m → result ≡ middle_is_element (heading_of read.now list) m }
-{
-    let Body::Group(count) = middle.body else {
-        return true;
-    };
-    if count >= 2 {
-        return true;
+    /// Whether it is REPEATED.
+    fn is_repeated(self) -> bool
+        ensures { (x : Node) → IsNode self.entry x → result ≡ is_repeated (heading x).repetition }
+    {
+        self.shown.header.repetition == Repetition::Repeated
     }
-    is_named_as_element(read, list, middle.header)
-}
 
-/// Whether the group at a place has one field only, and that REPEATED.
-fn repeats_only(read: &Schema, at: usize, group: NodeEntry) -> bool
-    requires { at < 2 ^ 63 }
-    ensures { (m : Node) → Stands read.now at m → Shows read.now group m → result ≡ repeats_only m }
-{
-    let Body::Group(count) = group.body else {
-        return false;
-    };
-    if count != 1 {
-        return false;
+    /// Whether it is a group annotated LIST, MAP or MAP_KEY_VALUE.
+    fn is_collection(self) -> bool
+        ensures { (x : Node) → IsNode self.entry x → result ≡ collects x }
+    {
+        matches!(self.shown.body, Body::Group(_))
+            && Collection::from(self.shown.header.annotation) != Collection::Plain
     }
-    match entry_at(read, at + 1) {
-        Some(field) => is_repeated(field.header.repetition),
-        None => false,
-    }
-}
 
-/// The first rule that a LIST group at a place breaks, or what other rules say.
-fn broken_list(
-    read: &Schema,
-    at: usize,
-    list: Header,
-    count: u64,
-    others: Option<BuildRefusal>,
-) -> Option<BuildRefusal>
-    requires { at < 2 ^ 62 }
-    ensures { (xs : Nodes) → count ≡ fields_of xs → StandAll read.now (at + 1) xs → result ≡ list_rule (heading_of read.now list) xs others }
-{
-    if count == 0 {
-        return Some(BuildRefusal::EmptyGroup);
+    /// Whether it is a group without fields.
+    fn is_empty(self) -> bool
+        ensures { (x : Node) → IsNode self.entry x → result ≡ is_empty x }
+    {
+        matches!(self.shown.body, Body::Group(0))
     }
-    if count != 1 {
-        return Some(BuildRefusal::BadList);
-    }
-    let Some(middle) = entry_at(read, at + 1) else {
-        return Some(BuildRefusal::BadList);
-    };
-    if !is_repeated(middle.header.repetition) {
-        return Some(BuildRefusal::BadList);
-    }
-    if lacks_element(read, list, middle) {
-        return Some(BuildRefusal::EmptyGroup);
-    }
-    if collects_or_repeats(read, at + 1, middle) {
-        return Some(BuildRefusal::BadList);
-    }
-    others
-}
 
-/// Whether a list's element would be a field that its middle has not.
-fn lacks_element(read: &Schema, list: Header, middle: NodeEntry) -> bool
-    ensures { (m : Node) → Shows read.now middle m → result ≡ (is_empty m && not (middle_is_element (heading_of read.now list) m)) }
-{
-    if is_empty(middle) {
-        !middle_is_element(read, list, middle)
-    } else {
-        false
+    /// Whether it is a group of two fields.
+    pub(crate) fn has_two_fields(self) -> bool
+        ensures { result ≡ two_fields self.entry.shown.body }
+    {
+        matches!(self.shown.body, Body::Group(2))
     }
-}
 
-/// Whether a list's middle is a collection, or has one field only and that REPEATED.
-fn collects_or_repeats(read: &Schema, at: usize, middle: NodeEntry) -> bool
-    requires { at < 2 ^ 63 }
-    ensures { (m : Node) → Stands read.now at m → Shows read.now middle m → result ≡ (collects m || repeats_only m) }
-{
-    if is_collection(middle) {
-        true
-    } else {
-        repeats_only(read, at, middle)
+    /// Whether it is a leaf that is not REPEATED.
+    fn is_key(self) -> bool
+        ensures { (x : Node) → IsNode self.entry x → result ≡ is_key x }
+    {
+        matches!(self.shown.body, Body::Primitive(_)) && !self.is_repeated()
     }
-}
 
-/// Whether an entry is a group without fields.
-fn is_empty(entry: NodeEntry) -> bool
-    ensures { result ≡ empty_entry entry }
-{
-    match entry.body {
-        Body::Primitive(_) => false,
-        Body::Group(count) => count == 0,
+    /// Whether it is named `array`, or as the list with `_tuple`.
+    fn is_named_as_element(self, list: ReadNode<'_>) -> bool
+        ensures { result ≡ named_as_element (heading_at list.entry) (heading_at self.entry) }
+    {
+        let name = self.read.text(self.shown.header.name);
+        name == b"array".as_slice()
+            || name.strip_suffix(b"_tuple") == Some(list.read.text(list.shown.header.name))
     }
-}
 
-/// The first rule that a MAP or MAP_KEY_VALUE group at a place breaks, or what other rules say.
-fn broken_map(
-    read: &Schema,
-    at: usize,
-    count: u64,
-    others: Option<BuildRefusal>,
-) -> Option<BuildRefusal>
-    requires { at < 2 ^ 62 }
-    ensures { (xs : Nodes) → count ≡ fields_of xs → StandAll read.now (at + 1) xs → result ≡ map_rule xs others }
-{
-    if count == 0 {
-        return Some(BuildRefusal::EmptyGroup);
+    /// Whether a list's element is this middle itself, and not the middle's one field.
+    pub(crate) fn is_element(self, list: ReadNode<'_>) -> bool
+        ensures { (m : Node) → IsNode self.entry m → result ≡ middle_is_element (heading_at list.entry) m }
+    {
+        match self.shown.body {
+            Body::Primitive(_) => true,
+            Body::Group(count) => count >= 2 || self.is_named_as_element(list),
+        }
     }
-    if count != 1 {
-        return Some(BuildRefusal::BadMap);
-    }
-    if is_middle_of_map(read, at + 1) {
-        others
-    } else {
-        Some(BuildRefusal::BadMap)
-    }
-}
 
-/// Whether the node at a place is a REPEATED group of a key, or of a key and a value.
-fn is_middle_of_map(read: &Schema, at: usize) -> bool
-    requires { at < 2 ^ 63 }
-    ensures { (m : Node) → Stands read.now at m → result ≡ is_middle_of_map m }
-{
-    let Some(middle) = entry_at(read, at) else {
-        return false;
-    };
-    let Body::Group(count) = middle.body else {
-        return false;
-    };
-    if count == 0 {
-        return false;
+    /// Whether a list's element would be a field that this middle has not.
+    fn lacks_element(self, list: ReadNode<'_>) -> bool
+        ensures { (m : Node) → IsNode self.entry m → result ≡ (is_empty m && not (middle_is_element (heading_at list.entry) m)) }
+    {
+        self.is_empty() && !self.is_element(list)
     }
-    if count > 2 {
-        return false;
-    }
-    if !is_repeated(middle.header.repetition) {
-        return false;
-    }
-    match entry_at(read, at + 1) {
-        Some(key) => is_key(key),
-        None => false,
-    }
-}
 
-/// Whether an entry is a leaf that is not REPEATED.
-fn is_key(entry: NodeEntry) -> bool
-    ensures { result ≡ key_entry entry }
-{
-    match entry.body {
-        Body::Primitive(_) => !is_repeated(entry.header.repetition),
-        Body::Group(_) => false,
+    /// Whether it is a group of one field only, and that REPEATED.
+    fn repeats_only(self) -> bool
+        ensures { (m : Node) → IsNode self.entry m → result ≡ repeats_only m }
+    {
+        match self.shown.body {
+            Body::Group(1) => self.next().is_some_and(ReadNode::is_repeated),
+            _ => false,
+        }
     }
-}
 
-/// The first rule that the read node at a place breaks by itself.
-pub(crate) fn broken_rule(read: &Schema, at: usize, entry: NodeEntry) -> Option<BuildRefusal>
-    requires { at < 2 ^ 62 }
-    ensures { (x : Node) → Stands read.now at x → Shows read.now entry x → result ≡ rule_broken x }
-{
-    let Body::Group(count) = entry.body else {
-        return None;
-    };
-    let repeated = if is_repeated(entry.header.repetition) {
-        Some(BuildRefusal::RepeatedCollection)
-    } else {
-        None
-    };
-    match Collection::of(entry.header.annotation) {
-        Collection::ListOf => broken_list(read, at, entry.header, count, repeated),
-        Collection::MapOf => broken_map(read, at, count, repeated),
-        Collection::Plain => {
-            if count == 0 {
-                Some(BuildRefusal::EmptyGroup)
-            } else {
-                None
-            }
+    /// Whether it is a collection, or has one field only and that REPEATED.
+    fn collects_or_repeats(self) -> bool
+        ensures { (m : Node) → IsNode self.entry m → result ≡ (collects m || repeats_only m) }
+    {
+        self.is_collection() || self.repeats_only()
+    }
+
+    /// Whether it is a REPEATED group of a key, or of a key and a value.
+    fn is_middle_of_map(self) -> bool
+        ensures { (m : Node) → IsNode self.entry m → result ≡ is_middle_of_map m }
+    {
+        let Body::Group(count) = self.shown.body else {
+            return false;
+        };
+        if count == 0 || count > 2 || !self.is_repeated() {
+            return false;
+        }
+        self.next().is_some_and(ReadNode::is_key)
+    }
+
+    /// The first rule of a LIST group that it breaks, if its `count` fields are some.
+    fn check_list(self, count: u64) -> Result<(), BuildRefusal>
+        ensures { (x : Node) (xs : Nodes) → count ≡ 1 + fields_of xs → StandAll self.entry.read.now (self.entry.at + 1) (more_nodes x xs) → result_err result ≡ list_rule (heading_at self.entry) (more_nodes x xs) None }
+    {
+        if count != 1 {
+            return Err(BuildRefusal::BadList);
+        }
+        // As plain as `ok_or` and `?`, which would leave a goal to answer.
+        let Some(middle) = self.next() else {
+            return Err(BuildRefusal::BadList);
+        };
+        if !middle.is_repeated() {
+            return Err(BuildRefusal::BadList);
+        }
+        if middle.lacks_element(self) {
+            return Err(BuildRefusal::EmptyGroup);
+        }
+        if middle.collects_or_repeats() {
+            return Err(BuildRefusal::BadList);
+        }
+        Ok(())
+    }
+
+    /// The rule of a MAP or MAP_KEY_VALUE group that it breaks, if its `count` fields are some.
+    fn check_map(self, count: u64) -> Result<(), BuildRefusal>
+        ensures { (x : Node) (xs : Nodes) → count ≡ 1 + fields_of xs → StandAll self.entry.read.now (self.entry.at + 1) (more_nodes x xs) → result_err result ≡ map_rule (more_nodes x xs) None }
+    {
+        if count == 1 && self.next().is_some_and(ReadNode::is_middle_of_map) {
+            Ok(())
+        } else {
+            Err(BuildRefusal::BadMap)
+        }
+    }
+
+    /// The first rule that it breaks by itself.
+    pub(crate) fn check(self) -> Result<(), BuildRefusal>
+        ensures { (x : Node) → IsNode self.entry x → result_err result ≡ rule_broken x }
+    {
+        let Body::Group(count) = self.shown.body else {
+            return Ok(());
+        };
+        if count == 0 {
+            return Err(BuildRefusal::EmptyGroup);
+        }
+        match Collection::from(self.shown.header.annotation) {
+            Collection::ListOf => self.check_list(count)?,
+            Collection::MapOf => self.check_map(count)?,
+            Collection::Plain => return Ok(()),
+        }
+        if self.is_repeated() {
+            Err(BuildRefusal::RepeatedCollection)
+        } else {
+            Ok(())
         }
     }
 }

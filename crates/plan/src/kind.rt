@@ -1,14 +1,15 @@
 // What a leaf is shown as, and how its values are delivered.
-ghost use Rattle.std.specs.Prelude.{◌≡◌};
-ghost use Rattle.plan.specs.Kinds.{field_number, value_kind, is_float16, shown_kind, KindExamples};
+ghost use Rattle.std.specs.Prelude.{◌≡◌, Some};
+ghost use Rattle.plan.specs.Kinds.{field_number, field_name, value_kind, from_int32, from_int64, from_byte_array, from_fixed, shown_by, is_float16, shown_kind, KindExamples};
 
-use FieldKind::*;
-use basic::{Code, ConvertedType, PhysicalType};
+use basic::{ConvertedType, PhysicalType};
 use schema::Leaf;
+use std::fmt;
 
 /// What a cell of a row shows: null, a leaf's value, a group, a list or a map.
-#[derive(Clone, Copy)]
+#[derive(Clone, Copy, Debug, Default, PartialEq, Eq)]
 pub enum FieldKind {
+    #[default]
     Null,
     Bool,
     Byte,
@@ -45,10 +46,45 @@ impl FieldKind {
     }
 }
 
+/// Writes the kind's name.
+impl fmt::Display for FieldKind {
+    ghost output = { λ kind. Some (field_name kind) };
+
+    fn fmt<W: fmt::Write>(&self, f: &mut fmt::Formatter<W>) -> fmt::Result {
+        f.pad(match self {
+            FieldKind::Null => "Null",
+            FieldKind::Bool => "Bool",
+            FieldKind::Byte => "Byte",
+            FieldKind::Short => "Short",
+            FieldKind::Int => "Int",
+            FieldKind::Long => "Long",
+            FieldKind::UByte => "UByte",
+            FieldKind::UShort => "UShort",
+            FieldKind::UInt => "UInt",
+            FieldKind::ULong => "ULong",
+            FieldKind::Float16 => "Float16",
+            FieldKind::Float => "Float",
+            FieldKind::Double => "Double",
+            FieldKind::Decimal => "Decimal",
+            FieldKind::Str => "Str",
+            FieldKind::Bytes => "Bytes",
+            FieldKind::Date => "Date",
+            FieldKind::TimeMillis => "TimeMillis",
+            FieldKind::TimeMicros => "TimeMicros",
+            FieldKind::TimestampMillis => "TimestampMillis",
+            FieldKind::TimestampMicros => "TimestampMicros",
+            FieldKind::Group => "Group",
+            FieldKind::ListInternal => "ListInternal",
+            FieldKind::MapInternal => "MapInternal",
+        })
+    }
+}
+
 /// How the values of a column are delivered.
-#[derive(Clone, Copy, Debug, PartialEq, Eq)]
+#[derive(Clone, Copy, Debug, Default, PartialEq, Eq)]
 pub enum ValueKind {
     /// 64 bits.
+    #[default]
     Word,
     /// Three numbers of 32 bits.
     Int96,
@@ -56,11 +92,11 @@ pub enum ValueKind {
     Run,
 }
 
-impl ValueKind {
-    /// How the values of a physical type are delivered.
-    pub fn of(physical: PhysicalType) -> ValueKind
-        ensures { result ≡ value_kind physical }
-    {
+/// How the values of a physical type are delivered.
+impl From<PhysicalType> for ValueKind {
+    ghost from_gives = { λ physical kind. kind ≡ value_kind physical };
+
+    fn from(physical: PhysicalType) -> ValueKind {
         match physical {
             PhysicalType::Boolean
             | PhysicalType::Int32
@@ -73,121 +109,63 @@ impl ValueKind {
     }
 }
 
-/// What a leaf of a physical type is shown as under an annotation, if it converts.
-static CONVERSIONS: [[Option<FieldKind>; 23]; 8] = [
-    // BOOLEAN
-    [Some(Bool); 23],
-    // INT32
-    [
-        Some(Int), // none
-        None, // UTF8
-        None, // MAP
-        None, // MAP_KEY_VALUE
-        None, // LIST
-        None, // ENUM
-        Some(Decimal), // DECIMAL
-        Some(Date), // DATE
-        Some(TimeMillis), // TIME_MILLIS
-        None, // TIME_MICROS
-        None, // TIMESTAMP_MILLIS
-        None, // TIMESTAMP_MICROS
-        Some(UByte), // UINT_8
-        Some(UShort), // UINT_16
-        Some(UInt), // UINT_32
-        None, // UINT_64
-        Some(Byte), // INT_8
-        Some(Short), // INT_16
-        Some(Int), // INT_32
-        None, // INT_64
-        None, // JSON
-        None, // BSON
-        None, // INTERVAL
-    ],
-    // INT64
-    [
-        Some(Long), // none
-        None, // UTF8
-        None, // MAP
-        None, // MAP_KEY_VALUE
-        None, // LIST
-        None, // ENUM
-        Some(Decimal), // DECIMAL
-        None, // DATE
-        None, // TIME_MILLIS
-        Some(TimeMicros), // TIME_MICROS
-        Some(TimestampMillis), // TIMESTAMP_MILLIS
-        Some(TimestampMicros), // TIMESTAMP_MICROS
-        None, // UINT_8
-        None, // UINT_16
-        None, // UINT_32
-        Some(ULong), // UINT_64
-        None, // INT_8
-        None, // INT_16
-        None, // INT_32
-        Some(Long), // INT_64
-        None, // JSON
-        None, // BSON
-        None, // INTERVAL
-    ],
-    // INT96
-    [Some(TimestampMillis); 23],
-    // FLOAT
-    [Some(Float); 23],
-    // DOUBLE
-    [Some(Double); 23],
-    // BYTE_ARRAY
-    [
-        Some(Bytes), // none
-        Some(Str), // UTF8
-        None, // MAP
-        None, // MAP_KEY_VALUE
-        None, // LIST
-        Some(Str), // ENUM
-        Some(Decimal), // DECIMAL
-        None, // DATE
-        None, // TIME_MILLIS
-        None, // TIME_MICROS
-        None, // TIMESTAMP_MILLIS
-        None, // TIMESTAMP_MICROS
-        None, // UINT_8
-        None, // UINT_16
-        None, // UINT_32
-        None, // UINT_64
-        None, // INT_8
-        None, // INT_16
-        None, // INT_32
-        None, // INT_64
-        Some(Str), // JSON
-        Some(Bytes), // BSON
-        None, // INTERVAL
-    ],
-    // FIXED_LEN_BYTE_ARRAY
-    [
-        Some(Bytes), // none
-        None, // UTF8
-        None, // MAP
-        None, // MAP_KEY_VALUE
-        None, // LIST
-        None, // ENUM
-        Some(Decimal), // DECIMAL
-        None, // DATE
-        None, // TIME_MILLIS
-        None, // TIME_MICROS
-        None, // TIMESTAMP_MILLIS
-        None, // TIMESTAMP_MICROS
-        None, // UINT_8
-        None, // UINT_16
-        None, // UINT_32
-        None, // UINT_64
-        None, // INT_8
-        None, // INT_16
-        None, // INT_32
-        None, // INT_64
-        None, // JSON
-        None, // BSON
-        None, // INTERVAL
-    ],
-];
+/// What INT32 is shown as under an annotation, if it converts.
+fn from_int32(annotation: Option<ConvertedType>) -> Option<FieldKind>
+    ensures { result ≡ shown_by from_int32 annotation }
+{
+    match annotation {
+        None | Some(ConvertedType::Int32) => Some(FieldKind::Int),
+        Some(ConvertedType::Int8) => Some(FieldKind::Byte),
+        Some(ConvertedType::Int16) => Some(FieldKind::Short),
+        Some(ConvertedType::Uint8) => Some(FieldKind::UByte),
+        Some(ConvertedType::Uint16) => Some(FieldKind::UShort),
+        Some(ConvertedType::Uint32) => Some(FieldKind::UInt),
+        Some(ConvertedType::Date) => Some(FieldKind::Date),
+        Some(ConvertedType::TimeMillis) => Some(FieldKind::TimeMillis),
+        Some(ConvertedType::Decimal) => Some(FieldKind::Decimal),
+        _ => None,
+    }
+}
+
+/// What INT64 is shown as under an annotation, if it converts.
+fn from_int64(annotation: Option<ConvertedType>) -> Option<FieldKind>
+    ensures { result ≡ shown_by from_int64 annotation }
+{
+    match annotation {
+        None | Some(ConvertedType::Int64) => Some(FieldKind::Long),
+        Some(ConvertedType::Uint64) => Some(FieldKind::ULong),
+        Some(ConvertedType::TimeMicros) => Some(FieldKind::TimeMicros),
+        Some(ConvertedType::TimestampMillis) => Some(FieldKind::TimestampMillis),
+        Some(ConvertedType::TimestampMicros) => Some(FieldKind::TimestampMicros),
+        Some(ConvertedType::Decimal) => Some(FieldKind::Decimal),
+        _ => None,
+    }
+}
+
+/// What BYTE_ARRAY is shown as under an annotation, if it converts.
+fn from_byte_array(annotation: Option<ConvertedType>) -> Option<FieldKind>
+    ensures { result ≡ shown_by from_byte_array annotation }
+{
+    match annotation {
+        None | Some(ConvertedType::Bson) => Some(FieldKind::Bytes),
+        Some(ConvertedType::Utf8 | ConvertedType::Enum | ConvertedType::Json) => {
+            Some(FieldKind::Str)
+        }
+        Some(ConvertedType::Decimal) => Some(FieldKind::Decimal),
+        _ => None,
+    }
+}
+
+/// What FIXED_LEN_BYTE_ARRAY is shown as under an annotation, if it converts.
+fn from_fixed(annotation: Option<ConvertedType>) -> Option<FieldKind>
+    ensures { result ≡ shown_by from_fixed annotation }
+{
+    match annotation {
+        None => Some(FieldKind::Bytes),
+        Some(ConvertedType::Decimal) => Some(FieldKind::Decimal),
+        _ => None,
+    }
+}
 
 /// Whether a leaf's flag for Float16 counts: on FIXED_LEN_BYTE_ARRAY without an annotation.
 fn is_float16(leaf: Leaf, annotation: Option<ConvertedType>) -> bool
@@ -200,11 +178,21 @@ fn is_float16(leaf: Leaf, annotation: Option<ConvertedType>) -> bool
 }
 
 /// What a leaf is shown as, if it converts.
+#[tactic(auto, unfolding(crate::specs::Kinds::shown_kind, crate::specs::Kinds::kind_under))]
 pub(crate) fn shown_kind(leaf: Leaf, annotation: Option<ConvertedType>) -> Option<FieldKind>
     ensures { result ≡ shown_kind leaf annotation }
 {
     if is_float16(leaf, annotation) {
-        return Some(Float16);
+        return Some(FieldKind::Float16);
     }
-    CONVERSIONS[leaf.physical.code() as usize][annotation.code() as usize]
+    match leaf.physical {
+        PhysicalType::Boolean => Some(FieldKind::Bool),
+        PhysicalType::Int32 => from_int32(annotation),
+        PhysicalType::Int64 => from_int64(annotation),
+        PhysicalType::Int96 => Some(FieldKind::TimestampMillis),
+        PhysicalType::Float => Some(FieldKind::Float),
+        PhysicalType::Double => Some(FieldKind::Double),
+        PhysicalType::ByteArray => from_byte_array(annotation),
+        PhysicalType::FixedLenByteArray => from_fixed(annotation),
+    }
 }

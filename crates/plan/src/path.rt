@@ -1,69 +1,55 @@
 // The path so far, and the guard that takes it back.
-ghost use Rattle.std.specs.Prelude.{◌≡◌, ◌<◌, ◌≤◌, [], ◌∷◌, ◌++◌, length};
+ghost use Rattle.std.specs.Prelude.{◌≡◌, ◌-◌, ◌<◌, ◌≤◌, [], ◌∷◌, ◌++◌, length, take};
 ghost use Rattle.plan.specs.Links.{entered as entered_path, parts_of};
 
-use basic::Repetition;
-use schema::{Header, MAX_LEVELS, Name};
+use arrayvec::ArrayVec;
+use schema::{Header, MAX_LEVELS};
 
 /// The headers from right below the root down to where a visit stands.
-#[derive(Clone, Copy)]
+#[derive(Drop)]
 pub(crate) struct Path {
-    headers: [Header; MAX_LEVELS],
-    len: usize,
+    headers: ArrayVec<Header, MAX_LEVELS>,
 }
 
-/// Held inside a node; its end takes the path back to its old length.
+/// Held inside a node; its end takes the path back to the node above.
 pub(crate) struct Entered<'a> {
     pub(crate) path: &'a mut Path,
-    old: usize,
 }
 
 impl Drop for Entered<'_> {
     fn drop(self)
-        ensures restores_length { self.exit.0.now.len ≡ self.entry.old }
-        ensures leaves_headers { self.exit.0.now.headers ≡ self.entry.path.now.headers }
+        ensures takes_back { parts_of self.exit.0.now ≡ take (length (parts_of self.entry.path.now) - 1) (parts_of self.entry.path.now) }
     {
-        self.path.len = self.old;
-        let Entered { path: _, old: _ } = self;
+        self.path.headers.pop();
+        let Entered { path: _ } = self;
     }
 }
 
 impl Path {
     /// The path of the root, which is empty.
     pub(crate) fn root() -> Path
-        ensures empty { result.len ≡ 0 }
-        ensures parts { parts_of result ≡ [] }
+        ensures { parts_of result ≡ [] }
     {
-        let unused = Header {
-            name: Name { start: 0, len: 0 },
-            repetition: Repetition::Required,
-            annotation: None,
-        };
         Path {
-            headers: [unused; MAX_LEVELS],
-            len: 0,
+            headers: ArrayVec::new(),
         }
     }
 
     /// Makes the path one node longer, until the guard ends.
     pub(crate) fn enter(&mut self, header: Header) -> Entered<'_>
-        requires { self.old.len < 16 }
+        requires { length (parts_of self.old) < 16 }
         ensures starts { result.path.now ≡ entered_path self.old header }
-        ensures one_longer { parts_of result.path.now ≡ parts_of self.old ++ header ∷ [] }
-        ensures keeps { result.old ≡ self.old.len }
         ensures lends { result.path.ghost_name ≡ self.entry.ghost_name }
     {
-        let old = self.len;
-        self.headers[old] = header;
-        self.len = old + 1;
-        Entered { path: self, old }
+        self.headers.push(header);
+        Entered { path: self }
     }
 
     /// How many nodes the path has.
     pub(crate) fn depth(&self) -> usize
-        ensures { result ≡ self.now.len }
+        ensures { result ≡ length (parts_of self.now) }
     {
-        self.len
+        self.headers.len()
     }
 
     /// The headers of the path's nodes, from right below the root down.
@@ -71,6 +57,6 @@ impl Path {
         ensures parts { result.now ≡ parts_of self.now }
         ensures short { length result.now ≤ 16 }
     {
-        &self.headers[0..self.len.min(MAX_LEVELS)]
+        self.headers.as_slice()
     }
 }

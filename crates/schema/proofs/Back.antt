@@ -1,7 +1,7 @@
 -- Each part of an image is read back. Assumes nothing.
-use Rattle.std.proofs.Common.{◌≡◌, ℕ, ◌^◌, ◌<◌, Bool, List, [], ◌∷◌, ◌++◌, length, take, Some, refl, ap, ◌∙◌, append_assoc, arith, length-append}
+use Rattle.std.proofs.Common.{◌≡◌, ℕ, ◌^◌, ◌<◌, ◌≤◌, Bool, true, List, [], ◌∷◌, ◌++◌, length, take, drop, Some, refl, ap, ◌∙◌, append_assoc, arith, length-append}
 use Rattle.std.proofs.lemmas.List.{take_at, drop_at}
-use Rattle.std.proofs.lemmas.Bool.{lt-ltb}
+use Rattle.std.proofs.lemmas.Bool.{lt-ltb, le-ltb}
 use Rattle.basic.specs.Codes.{decoded, repetition_code, repetitions, physical_code, physical_types, annotation_code, annotations, flag_code, flags}
 use Rattle.basic.specs.Coded.{repetition_back, physical_back, annotation_back, flag_back}
 use Rattle.basic.proofs.Coded.{repetition-small, physical_small, annotation_small, flag_small}
@@ -13,7 +13,6 @@ use Rattle.schema.specs.declared.entry.Leaf.{Leaf}
 use Rattle.schema.specs.Schemas.{Heading}
 use Rattle.schema.specs.Image.{name_image, heading_image, leaf_image, FitsName, FitsLeaf}
 use Rattle.schema.specs.Reading.{or_malformed, number_here, bounded_in, code_in, name_in, heading_in, leaf_in}
-use Rattle.schema.proofs.Names.{name_whole}
 use Rattle.utf8.proofs.Sequences.{complete as text-complete}
 
 pub number_back : (n : ℕ) (rest : List ℕ) → n < 2 ^ 64 → number_here (encoding n ++ rest) ≡ got n rest
@@ -27,6 +26,10 @@ code_back code cases x rest back small = let a = number_back (code x) rest (omeg
 
 pub flag_again : (b : Bool) (rest : List ℕ) → code_in flag_code flags (encoding (flag_code b) ++ rest) ≡ got b rest
 flag_again b rest = code_back flag_code flags b rest (flag_back b) (flag_small b)
+
+-- a length n of at most 255 is read, and so many bytes of text stand after it
+name_whole : (bs : List ℕ) (n : ℕ) (rest : List ℕ) → number_here bs ≡ got n rest → n ≤ 255 → n ≤ length rest → well_formed (take n rest) ≡ true → name_in bs ≡ got (take n rest) (drop n rest)
+name_whole bs n rest read low long good = let a = le-ltb 255 n low in let b = le-ltb (length rest) n long in rw read (rw (a, b) (rw good))
 
 pub name_back : (name rest : List ℕ) → FitsName name → name_in (name_image name ++ rest) ≡ got name rest
 name_back name rest fits =

@@ -1,5 +1,4 @@
 pub mod Paths
-pub mod Names
 pub mod Outcomes
 pub mod Written
 pub mod Headings

@@ -1,8 +1,8 @@
 -- What the loop over the fields of a group keeps. Assumes nothing.
-use Rattle.std.proofs.Common.{◌≡◌, ℕ, suc, ◌+◌, ◌-◌, ◌<◌, ◌≤◌, List, [], ◌++◌, length, Ok, sym, refl, ap, ◌∙◌, append_assoc, append-nil, arith}
+use Rattle.std.proofs.Common.{◌≡◌, ℕ, suc, ◌+◌, ◌-◌, ◌<◌, ◌≤◌, List, [], ◌++◌, Ok, sym, refl, ap, ◌∙◌, subst, append_assoc, append-nil, arith}
 use native.Mathlib.Nat.{sub-zero}
-use Rattle.schema.specs.declared.refusal.ImageRefusal.{ImageRefusal}
 use Rattle.schema.specs.declared.column.ColumnPath.{ColumnPath}
+use Rattle.schema.specs.declared.parts.Cursor.{Cursor}
 use Rattle.schema.specs.declared.table.Table.{Table}
 use Rattle.schema.specs.Schemas.{Heading, Node, Nodes, none, more}
 use Rattle.schema.specs.Reading.{Grown, grew, fell, growing, node_in, fields_by}
@@ -50,40 +50,43 @@ following-more : (xs : Nodes) (x : Node) (a : Grown Nodes) → following xs (gro
 following-more xs x (grew ys s) = ap (λ zs. grew zs s) (sym (chain_assoc xs (more x none) ys))
 following-more xs x (fell e) = refl
 
--- i of n fields are read: from the table t at `from` the reading came to v at `next`
-pub record Sofar (bytes : List ℕ) (path : ColumnPath) (n : ℕ) (t : Table) (from : ℕ) (v : Table) (next i : ℕ) : Type 0 where
-  pub inside : next ≤ length bytes
+-- i of n fields are read: from the table t and the cursor c the reading came to v and d
+pub record Sofar (path : ColumnPath) (n : ℕ) (t : Table) (c : Cursor) (v : Table) (d : Cursor) (i : ℕ) : Type 0 where
+  pub same : d.image.now ≡ c.image.now
   pub some : Nodes
-  pub rest : fields_by (node_in (16 - path.len)) n (place bytes from t) ≡ following some (fields_by (node_in (16 - path.len)) (n - i) (place bytes next v))
-  pub has_rows : rows_held bytes v ≡ rows_held bytes t ++ rows_of some
-  pub has_columns : columns_held bytes v ≡ columns_held bytes t ++ columns_all (trail bytes path) some
+  pub rest : fields_by (node_in (16 - path.len)) n (place c t) ≡ following some (fields_by (node_in (16 - path.len)) (n - i) (place d v))
+  pub has_rows : rows_held c.image.now v ≡ rows_held c.image.now t ++ rows_of some
+  pub has_columns : columns_held c.image.now v ≡ columns_held c.image.now t ++ columns_all (trail c.image.now path) some
 
-pub start : (bytes : List ℕ) (path : ColumnPath) (n : ℕ) (t : Table) (from : ℕ) → from ≤ length bytes → Sofar bytes path n t from t from 0
-start bytes path n t from le =
+pub start : (path : ColumnPath) (n : ℕ) (t : Table) (c : Cursor) → Sofar path n t c t c 0
+start path n t c =
+    let bytes = c.image.now in
     record {
-      inside = le;
+      same = refl;
       some = none;
-      rest = ap (λ k. fields_by (node_in (16 - path.len)) k (place bytes from t)) (sym (sub-zero n)) ∙ following_none (fields_by (node_in (16 - path.len)) (n - 0) (place bytes from t));
+      rest = ap (λ k. fields_by (node_in (16 - path.len)) k (place c t)) (sym (sub-zero n)) ∙ following_none (fields_by (node_in (16 - path.len)) (n - 0) (place c t));
       has_rows = sym (append-nil (rows_held bytes t));
       has_columns = sym (append-nil (columns_held bytes t)) ∙ ap (λ l. columns_held bytes t ++ l) (sym (columns_no (trail bytes path)));
     }
 
-module _ {bytes : List ℕ} {path : ColumnPath} {n : ℕ} {t : Table} {from : ℕ} {v : Table} {next i : ℕ} (h : Sofar bytes path n t from v next i) where
-  one_less : i < n → fields_by (node_in (16 - path.len)) n (place bytes from t) ≡ following h.some (fields_by (node_in (16 - path.len)) (suc (n - (i + 1))) (place bytes next v))
-  one_less lt = let e : n - i ≡ suc (n - (i + 1)) = omega arith in h.rest ∙ ap (λ k. following h.some (fields_by (node_in (16 - path.len)) k (place bytes next v))) e
+module _ {path : ColumnPath} {n : ℕ} {t : Table} {c : Cursor} {v : Table} {d : Cursor} {i : ℕ} (h : Sofar path n t c v d i) where
+  one_less : i < n → fields_by (node_in (16 - path.len)) n (place c t) ≡ following h.some (fields_by (node_in (16 - path.len)) (suc (n - (i + 1))) (place d v))
+  one_less lt = let e : n - i ≡ suc (n - (i + 1)) = omega arith in h.rest ∙ ap (λ k. following h.some (fields_by (node_in (16 - path.len)) k (place d v))) e
 
   after_one : (a : Grown Node) → Grown Nodes
   after_one a = following h.some (growing a (λ y s1. growing (fields_by (node_in (16 - path.len)) (n - (i + 1)) s1) (λ ys s2. grew (more y ys) s2)))
 
-  pub again : (v2 : Table) (next2 : ℕ) → i < n → Added rows (node_columns (trail bytes path)) bytes v v2 (Ok next2) (node_in (16 - path.len) (place bytes next v)) → Sofar bytes path n t from v2 next2 (i + 1)
+  pub again : (v2 : Table) (e : Cursor) → i < n → Added rows (node_columns (trail d.image.now path)) d.image.now e v v2 (Ok tt) (node_in (16 - path.len) (place d v)) → Sofar path n t c v2 e (i + 1)
   unfolding after_one
-  again v2 next2 lt a =
+  again v2 e lt read =
+      let bytes = c.image.now in
+      let a = subst (λ b. Added rows (node_columns (trail b path)) b e v v2 (Ok tt) (node_in (16 - path.len) (place d v))) h.same read in
       let x = a.1.0 in
       let columns = trail bytes path in
       record {
-        inside = a.0;
+        same = a.0;
         some = chain h.some (more x none);
-        rest = one_less lt ∙ ap after_one a.1.1 ∙ following-more h.some x (fields_by (node_in (16 - path.len)) (n - (i + 1)) (place bytes next2 v2));
+        rest = one_less lt ∙ ap after_one a.1.1 ∙ following-more h.some x (fields_by (node_in (16 - path.len)) (n - (i + 1)) (place e v2));
         has_rows = a.1.2
             ∙ ap (λ l. l ++ rows x) h.has_rows
             ∙ append_assoc (rows_held bytes t) (rows_of h.some) (rows x)
@@ -94,17 +97,13 @@ module _ {bytes : List ℕ} {path : ColumnPath} {n : ℕ} {t : Table} {from : �
             ∙ ap (λ l. columns_held bytes t ++ l) (ap (λ l. columns_all columns h.some ++ l) (sym (columns-one columns x)) ∙ sym (columns_chain columns h.some (more x none)));
       }
 
-  pub stops : (e : ImageRefusal) → i < n → node_in (16 - path.len) (place bytes next v) ≡ fell e → fields_by (node_in (16 - path.len)) n (place bytes from t) ≡ fell e
-  unfolding after_one
-  stops e lt a = one_less lt ∙ ap after_one a
-
-  pub done : n ≤ i → Added rows_of (columns_all (trail bytes path)) bytes t v (Ok next) (fields_by (node_in (16 - path.len)) n (place bytes from t))
+  pub done : n ≤ i → Added rows_of (columns_all (trail c.image.now path)) c.image.now d t v (Ok tt) (fields_by (node_in (16 - path.len)) n (place c t))
   done le =
       let e : n - i ≡ 0 = omega arith in (
-        h.inside,
+        h.same,
         (
           h.some,
-          h.rest ∙ ap (λ k. following h.some (fields_by (node_in (16 - path.len)) k (place bytes next v))) e ∙ ap (λ xs. grew xs (place bytes next v)) (chain_none h.some),
+          h.rest ∙ ap (λ k. following h.some (fields_by (node_in (16 - path.len)) k (place d v))) e ∙ ap (λ xs. grew xs (place d v)) (chain_none h.some),
           h.has_rows,
           h.has_columns,
         ),

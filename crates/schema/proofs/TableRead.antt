@@ -1,5 +1,5 @@
 -- How a whole image is read. Assumes nothing.
-use Rattle.std.proofs.Common.{◌≡◌, ℕ, ◌-◌, ◌<◌, ◌≤◌, ltb, List, [], ◌++◌, map, length, get_or, take, drop, None, Ok, Err, Result, sym, refl, ap, ◌∙◌, subst, arith, length-drop}
+use Rattle.std.proofs.Common.{◌≡◌, ℕ, ◌-◌, ◌<◌, ◌≤◌, ltb, List, [], ◌++◌, map, length, get_or, None, Ok, Err, Result, sym, refl, ap, ◌∙◌, subst, arith}
 use Rattle.std.specs.List.{AllByRecursion}
 use Rattle.std.proofs.ByRecursion.{All-from_get_or}
 use Rattle.std.proofs.lemmas.Bool.{lt-ltb, le-ltb}
@@ -10,11 +10,12 @@ use Rattle.schema.specs.declared.refusal.ImageRefusal.TheVariants.{Malformed}
 use Rattle.schema.specs.declared.entry.Name.{Name}
 use Rattle.schema.specs.declared.entry.Header.{Header}
 use Rattle.schema.specs.declared.column.ColumnPath.{ColumnPath}
+use Rattle.schema.specs.declared.parts.Cursor.{Cursor}
 use Rattle.schema.specs.declared.table.Table.{Table}
 use Rattle.schema.specs.declared.tree.Schema.{Schema}
 use Rattle.schema.specs.Schemas.{group, Tree}
-use Rattle.schema.specs.Reading.{name_in, fell, fields_body, node_in, whole, schema_in}
-use Rattle.schema.specs.Places.{named, headed}
+use Rattle.schema.specs.Reading.{name_in, fell, fields_body, node_in, whole, rooted, schema_in}
+use Rattle.schema.specs.Places.{Reads, named, headed, rest}
 use Rattle.schema.specs.Columns.{columns_all, parts}
 use Rattle.schema.specs.Tables.{rows, row, trail, column_read, rows_held, columns_held, place, Added}
 use Rattle.schema.specs.Examples.{SchemaExamples, LevelExamples}
@@ -22,44 +23,53 @@ use Rattle.schema.proofs.Samples.{examples, level_examples}
 use Rattle.schema.proofs.Answered.{accepted, refused as refuses}
 use Rattle.schema.specs.Answering.{Read, Accepted, root_heading}
 
-pub no_name : (bytes : List ℕ) (e : ImageRefusal) → name_in bytes ≡ refused e → schema_in bytes ≡ Err e
+pub no_name : (bytes : List ℕ) (front : Cursor) (e : ImageRefusal) → rest front ≡ bytes → name_in (rest front) ≡ refused e → schema_in bytes ≡ Err e
 unfolding schema_in
-no_name bytes e h = rw h
+no_name bytes front e all h = ap (λ bs. rooted (name_in bs)) (sym all) ∙ ap rooted h
 
 abbrev root_header : Name → Header
 root_header nm = record { name = nm; repetition = Required; annotation = None }
 
--- the root's name was read, and the fields are read into a table that was empty
-module _ (bytes : List ℕ) (at : ℕ) (nm : Name) (t : Table) (p : ColumnPath) (name-read : name_in bytes ≡ got (named bytes nm) (drop at bytes))
-    (no-nodes : t.nodes ≡ 0) (no-leaves : t.leaves ≡ 0) (no-parts : parts p ≡ []) (no-depth : p.len ≡ 0) where
-  root_fields : schema_in bytes ≡ whole (named bytes nm) (fields_body (node_in (16 - p.len)) (place bytes at t) (drop at bytes))
+-- the root's name was read from the front up to the cursor c, and the fields are read into a table that was empty
+module _ (bytes : List ℕ) (front c : Cursor) (nm : Name) (t : Table) (p : ColumnPath) (over : front.image.now ≡ bytes) (all : rest front ≡ bytes) (took : Reads named (Ok nm) front c (name_in (rest front)))
+    (no-nodes : t.nodes.items ≡ []) (no-columns : t.columns.items ≡ []) (no-parts : parts p ≡ []) (no-depth : p.len ≡ 0) where
+  same : c.image.now ≡ bytes
+  same = took.0 ∙ over
+
+  name-read : name_in bytes ≡ got (named bytes nm) (rest c)
+  name-read = sym (ap name_in all) ∙ took.1 ∙ ap (λ b. got (named b nm) (rest c)) over
+
+  root_fields : schema_in bytes ≡ whole (named bytes nm) (fields_body (node_in (16 - p.len)) (place c t) (rest c))
   unfolding schema_in
   root_fields =
       let deep : 16 ≡ 16 - p.len = omega arith in
       rw name-read
-      (λ i. whole (named bytes nm) (fields_body (node_in (deep i)) (record { rest = drop at bytes; nodes = sym no-nodes i; leaves = sym no-leaves i }) (drop at bytes)))
+      (λ i. whole (named bytes nm) (fields_body (node_in (deep i)) (record { rest = rest c; nodes = length (sym no-nodes i); leaves = length (sym no-columns i) }) (rest c)))
 
-  pub fields_refused : (e : ImageRefusal) → fields_body (node_in (16 - p.len)) (place bytes at t) (drop at bytes) ≡ fell e → schema_in bytes ≡ Err e
+  pub fields_refused : (e : ImageRefusal) → fields_body (node_in (16 - p.len)) (place c t) (rest c) ≡ fell e → schema_in bytes ≡ Err e
   fields_refused e a = root_fields ∙ ap (whole (named bytes nm)) a
 
-  module _ (v : Table) (end : ℕ)
-      (a : Added (λ xs. rows (group (headed bytes (root_header nm)) xs)) (columns_all (trail bytes p)) bytes t v (Ok end) (fields_body (node_in (16 - p.len)) (place bytes at t) (drop at bytes))) where
+  module _ (d : Cursor) (v : Table)
+      (read : Added (λ xs. rows (group (headed c.image.now (root_header nm)) xs)) (columns_all (trail c.image.now p)) c.image.now d t v (Ok tt) (fields_body (node_in (16 - p.len)) (place c t) (rest c))) where
+    a : Added (λ xs. rows (group (headed bytes (root_header nm)) xs)) (columns_all (trail bytes p)) bytes d t v (Ok tt) (fields_body (node_in (16 - p.len)) (place c t) (rest c))
+    a = subst (λ b. Added (λ xs. rows (group (headed b (root_header nm)) xs)) (columns_all (trail b p)) b d t v (Ok tt) (fields_body (node_in (16 - p.len)) (place c t) (rest c))) same read
+
     tree : Tree
     tree = record { name = named bytes nm; fields = a.1.0 }
 
-    pub bytes_over : end < length bytes → schema_in bytes ≡ Err Malformed
+    pub bytes_over : 0 < length (rest d) → schema_in bytes ≡ Err Malformed
     bytes_over over =
-        let some : ltb 0 (length (drop end bytes)) ≡ _ = lt-ltb 0 (length (drop end bytes)) (simp length-drop (omega arith)) in
+        let some : ltb 0 (length (rest d)) ≡ _ = lt-ltb 0 (length (rest d)) over in
         root_fields ∙ ap (whole (named bytes nm)) a.1.1 ∙ rw some
 
-    pub all_read : (old new : Schema) → length bytes ≤ end → new.image.now ≡ bytes → new.table ≡ v → Read (Ok tt) bytes old new
+    pub all_read : (old new : Schema) → length (rest d) ≤ 0 → new.image.now ≡ bytes → new.table ≡ v → Read (Ok tt) bytes old new
     unfolding tree
     all_read old new over is-image is-table =
-        let none_left : ltb 0 (length (drop end bytes)) ≡ _ = le-ltb 0 (length (drop end bytes)) (simp length-drop (omega arith)) in
-        let no_rows : rows_held bytes t ≡ [] = ap (λ n. map (row bytes) (take n t.entries)) no-nodes in
-        let no-columns : columns_held bytes t ≡ [] = ap (λ n. map (column_read bytes) (take n t.columns)) no-leaves in
+        let none_left : ltb 0 (length (rest d)) ≡ _ = le-ltb 0 (length (rest d)) over in
+        let no_rows : rows_held bytes t ≡ [] = ap (map (row bytes)) no-nodes in
+        let none_held : columns_held bytes t ≡ [] = ap (map (column_read bytes)) no-columns in
         let has_rows = ap (λ l. l ++ rows (group (root_heading (named bytes nm)) a.1.0)) no_rows in
-        let has_columns = ap (λ l. l ++ columns_all (trail bytes p) a.1.0) no-columns ∙ ap (λ hs. columns_all (map (headed bytes) hs) a.1.0) no-parts in (
+        let has_columns = ap (λ l. l ++ columns_all (trail bytes p) a.1.0) none_held ∙ ap (λ hs. columns_all (map (headed bytes) hs) a.1.0) no-parts in (
           is-image,
           (
             tree,

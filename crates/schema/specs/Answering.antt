@@ -1,5 +1,5 @@
 -- What reading an image answers. Assumes nothing.
-use Rattle.std.specs.Prelude.{◌≡◌, ℕ, List, take, None, Ok, Err, Result, ◌≢◌}
+use Rattle.std.specs.Prelude.{◌≡◌, ℕ, List, None, Ok, Err, Result, ◌≢◌}
 use Rattle.basic.specs.declared.types.Repetition.TheVariants.{Required}
 use Rattle.schema.specs.declared.refusal.ImageRefusal.{ImageRefusal}
 use Rattle.schema.specs.declared.entry.NodeEntry.{NodeEntry}
@@ -29,11 +29,11 @@ seen_columns s = columns_held s.image.now s.table
 
 -- its nodes as they stand in the table
 abbrev pub entries_of : Schema → List NodeEntry
-entries_of s = take s.table.nodes s.table.entries
+entries_of s = s.table.nodes.items
 
 -- its columns as they stand there
 abbrev pub columns_in : Schema → List Column
-columns_in s = take s.table.leaves s.table.columns
+columns_in s = s.table.columns.items
 
 -- the table has the nodes and the columns of this schema, and no others
 pub record Holds (s : Schema) (t : Tree) : Type 0 where

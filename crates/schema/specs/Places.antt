@@ -1,9 +1,10 @@
 -- What the reading of a part answers. Assumes nothing.
-use Rattle.std.specs.Prelude.{◌≡◌, ℕ, ◌≤◌, List, length, take, drop, Ok, Err, Result}
+use Rattle.std.specs.Prelude.{◌≡◌, ℕ, List, take, drop, Ok, Err, Result}
 use Rattle.varint.specs.Parsed.{Parsed, got, refused}
 use Rattle.schema.specs.declared.refusal.ImageRefusal.{ImageRefusal}
 use Rattle.schema.specs.declared.entry.Name.{Name}
 use Rattle.schema.specs.declared.entry.Header.{Header}
+use Rattle.schema.specs.declared.parts.Cursor.{Cursor}
 use Rattle.schema.specs.Schemas.{Heading}
 
 -- most answers stand for themselves
@@ -18,7 +19,11 @@ named bytes n = take n.len (drop n.start bytes)
 abbrev pub headed : List ℕ → Header → Heading
 headed bytes h = record { name = named bytes h.name; repetition = h.repetition; annotation = h.annotation }
 
--- the answer to reading a part: what it stands for and the place after it, or the refusal
-abbrev pub Reads : {A B : Type 0} → (List ℕ → B → A) → Result (B × ℕ) ImageRefusal → List ℕ → ℕ → Parsed ImageRefusal A → Type 0
-Reads shown (Ok p) bytes at parsed = (p.1 ≤ length bytes) × (parsed ≡ got (shown bytes p.0) (drop p.1 bytes))
-Reads shown (Err e) bytes at parsed = parsed ≡ refused e
+-- the bytes from a cursor's place on
+abbrev pub rest : Cursor → List ℕ
+rest c = drop c.at c.image.now
+
+-- the answer to reading a part: what it stands for, with the cursor over the same image after it, or the refusal, after which nothing is owed of the cursor
+abbrev pub Reads : {A B : Type 0} → (List ℕ → B → A) → Result B ImageRefusal → Cursor → Cursor → Parsed ImageRefusal A → Type 0
+Reads shown (Ok x) old new parsed = (new.image.now ≡ old.image.now) × (parsed ≡ got (shown old.image.now x) (rest new))
+Reads shown (Err e) old new parsed = parsed ≡ refused e

@@ -1,5 +1,6 @@
 -- What the table of an image holds. Assumes nothing.
-use Rattle.std.specs.Prelude.{◌≡◌, ℕ, ◌+◌, ◌≤◌, List, [], ◌∷◌, ◌++◌, map, length, take, drop, Ok, Err, Result, slice_set}
+use Rattle.std.specs.Prelude.{◌≡◌, ℕ, List, [], ◌∷◌, ◌++◌, map, Ok, Err, Result}
+use Rattle.arrayvec.specs.ArrayVec.{array_vec_len}
 use Rattle.schema.specs.declared.refusal.ImageRefusal.{ImageRefusal}
 use Rattle.schema.specs.declared.entry.Body.{Body}
 use Rattle.schema.specs.declared.entry.Body.TheVariants.{Group, Primitive}
@@ -7,9 +8,10 @@ use Rattle.schema.specs.declared.entry.NodeEntry.{NodeEntry}
 use Rattle.schema.specs.declared.column.Column.{Column}
 use Rattle.schema.specs.declared.column.ColumnPath.{ColumnPath}
 use Rattle.schema.specs.declared.table.Table.{Table}
+use Rattle.schema.specs.declared.parts.Cursor.{Cursor}
 use Rattle.schema.specs.Schemas.{Heading, Node, leaf, group, Nodes, none, more, count}
 use Rattle.schema.specs.Columns.{ColumnOf, heading, columns_at, parts}
-use Rattle.schema.specs.Places.{headed}
+use Rattle.schema.specs.Places.{headed, rest}
 use Rattle.schema.specs.Reading.{Place, Grown, grew, fell}
 
 -- a node without those beneath it
@@ -45,26 +47,18 @@ column_read bytes c = record { path = trail bytes c.path; leaf = c.leaf; definit
 
 -- the rows that a table holds
 abbrev pub rows_held : List ℕ → Table → List Row
-rows_held bytes t = map (row bytes) (take t.nodes t.entries)
+rows_held bytes t = map (row bytes) t.nodes.items
 
 -- the columns that a table holds
 abbrev pub columns_held : List ℕ → Table → List ColumnOf
-columns_held bytes t = map (column_read bytes) (take t.leaves t.columns)
+columns_held bytes t = map (column_read bytes) t.columns.items
 
--- where reading stands, by a place in the bytes and a table
-abbrev pub place : List ℕ → ℕ → Table → Place
-place bytes at t = record { rest = drop at bytes; nodes = t.nodes; leaves = t.leaves }
+-- where reading stands, by a cursor and a table
+abbrev pub place : Cursor → Table → Place
+place c t = record { rest = rest c; nodes = array_vec_len t.nodes; leaves = array_vec_len t.columns }
 
--- a table with one node more
-abbrev pub pushed_node : Table → NodeEntry → Table
-pushed_node t e = record { entries = slice_set t.entries t.nodes e; nodes = t.nodes + 1; columns = t.columns; leaves = t.leaves }
-
--- a table with one column more
-abbrev pub pushed_column : Table → Column → Table
-pushed_column t c = record { entries = t.entries; nodes = t.nodes; columns = slice_set t.columns t.leaves c; leaves = t.leaves + 1 }
-
--- what a step of reading answers: from the table t it came to v, where x was read, with the rows f x and the columns g x; or the refusal
-abbrev pub Added : {A : Type 0} → (A → List Row) → (A → List ColumnOf) → List ℕ → Table → Table → Result ℕ ImageRefusal → Grown A → Type 0
-Added f g bytes t v (Ok next) o =
-    (next ≤ length bytes) × ((x : _) × (o ≡ grew x (place bytes next v)) × (rows_held bytes v ≡ rows_held bytes t ++ f x) × (columns_held bytes v ≡ columns_held bytes t ++ g x))
-Added f g bytes t v (Err e) o = o ≡ fell e
+-- what a step of reading an image answers: from the table t it came to v, and to the cursor c over the same image, where x was read, with the rows f x and the columns g x; or the refusal, after which nothing is owed of either
+abbrev pub Added : {A : Type 0} → (A → List Row) → (A → List ColumnOf) → List ℕ → Cursor → Table → Table → Result Unit ImageRefusal → Grown A → Type 0
+Added f g bytes c t v (Ok _) o =
+    (c.image.now ≡ bytes) × ((x : _) × (o ≡ grew x (place c v)) × (rows_held bytes v ≡ rows_held bytes t ++ f x) × (columns_held bytes v ≡ columns_held bytes t ++ g x))
+Added f g bytes c t v (Err e) o = o ≡ fell e

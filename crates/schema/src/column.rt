@@ -1,20 +1,22 @@
 // The columns of a schema: its leaves, each with its path and its levels.
-ghost use Rattle.std.specs.Prelude.{◌≡◌, ℕ, ◌+◌, ◌<◌, ◌≤◌, List, [], ◌∷◌, ◌++◌, length};
+ghost use Rattle.std.specs.Prelude.{◌≡◌, ℕ, ◌+◌, ◌<◌, ◌≤◌, Bool, List, [], ◌∷◌, ◌++◌, length, count_by};
+ghost use Rattle.basic.specs.declared.types.Repetition.{Repetition};
 ghost use Rattle.schema.specs.Columns.{parts, made, max_definition, max_repetition, repetition_of, defines as defines_level, repeats as repeats_level};
 
-use crate::entry::{Header, Leaf, Name};
+use crate::entry::{Header, Leaf};
 use crate::limits::MAX_LEVELS;
 use basic::Repetition;
 
 /// The headers from right below the root down to a node.
-#[derive(Clone, Copy)]
+#[derive(Clone, Copy, Default)]
 pub struct ColumnPath {
+    // A path is `Copy`, which an `ArrayVec` is not: so an array with a length beside it.
     headers: [Header; MAX_LEVELS],
     len: usize,
 }
 
 /// A leaf with its path and the greatest levels of its values.
-#[derive(Clone, Copy)]
+#[derive(Clone, Copy, Default)]
 pub struct Column {
     pub path: ColumnPath,
     pub leaf: Leaf,
@@ -41,10 +43,7 @@ impl ColumnPath {
     pub(crate) fn root() -> ColumnPath
         ensures { (parts result ≡ []) × (result.len ≡ 0) }
     {
-        ColumnPath {
-            headers: [NAMELESS; MAX_LEVELS],
-            len: 0,
-        }
+        ColumnPath::default()
     }
 
     /// The path one node longer.
@@ -77,26 +76,23 @@ impl ColumnPath {
     pub(crate) fn max_def_level(&self) -> u8
         ensures { result ≡ max_definition (repetition_of (parts self.now)) }
     {
-        let mut level = 0;
-        for header in self.headers() {
-            if defines(header.repetition) {
-                level += 1;
-            }
-        }
-        level
+        self.count(defines)
     }
 
     /// How many of the nodes are REPEATED.
     pub(crate) fn max_rep_level(&self) -> u8
         ensures { result ≡ max_repetition (repetition_of (parts self.now)) }
     {
-        let mut level = 0;
-        for header in self.headers() {
-            if repeats(header.repetition) {
-                level += 1;
-            }
-        }
-        level
+        self.count(repeats)
+    }
+
+    /// How many of the nodes add a level, by their repetition.
+    fn count<F: Fn(Repetition) -> bool>(&self, adds: F) -> u8
+        requires { F.IsAlwaysCallable adds }
+        ensures { (test : Repetition → Bool) → ((r : Repetition) (b : Bool) → F.post adds r b → b ≡ test r) → result ≡ count_by test (repetition_of (parts self.now)) }
+    {
+        let headers = self.headers().iter();
+        headers.filter(|header| adds(header.repetition)).count() as u8
     }
 }
 
@@ -104,24 +100,12 @@ impl ColumnPath {
 fn defines(repetition: Repetition) -> bool
     ensures { result ≡ defines_level repetition }
 {
-    match repetition {
-        Repetition::Required => false,
-        Repetition::Optional | Repetition::Repeated => true,
-    }
+    repetition != Repetition::Required
 }
 
 /// Whether a node adds a repetition level to its path.
 fn repeats(repetition: Repetition) -> bool
     ensures { result ≡ repeats_level repetition }
 {
-    match repetition {
-        Repetition::Repeated => true,
-        Repetition::Required | Repetition::Optional => false,
-    }
+    repetition == Repetition::Repeated
 }
-
-pub(crate) const NAMELESS: Header = Header {
-    name: Name { start: 0, len: 0 },
-    repetition: Repetition::Required,
-    annotation: None,
-};

@@ -6,8 +6,7 @@ ghost use Rattle.schema.specs.Answering.{Read, Accepted, entries_of, columns_in,
 
 use crate::column::{Column, ColumnPath};
 use crate::entry::{Header, Name, NodeEntry};
-use crate::limits::{MAX_LEAVES, MAX_NODES};
-use crate::parts::name;
+use crate::parts::Cursor;
 use crate::refusal::ImageRefusal;
 use crate::table::Table;
 use basic::Repetition;
@@ -39,15 +38,16 @@ impl<'a> Schema<'a> {
         ensures worked_examples { SchemaExamples }
         ensures worked_levels { LevelExamples }
     {
-        let (name, at) = name(image, 0)?;
+        let mut cursor = Cursor::new(image);
+        let name = cursor.name()?;
         let root = Header {
             name,
             repetition: Repetition::Required,
             annotation: None,
         };
         let mut table = Table::empty();
-        let end = table.group(image, at, root, ColumnPath::root())?;
-        if end < image.len() {
+        table.group(&mut cursor, root, ColumnPath::root())?;
+        if cursor.left() > 0 {
             return Err(ImageRefusal::Malformed);
         }
         self.image = image;
@@ -60,7 +60,7 @@ impl<'a> Schema<'a> {
         ensures entries { result.now ≡ entries_of self.now }
         ensures few { length result.now ≤ 256 }
     {
-        &self.table.entries[0..self.table.nodes.min(MAX_NODES)]
+        self.table.nodes.as_slice()
     }
 
     /// The columns in order.
@@ -68,7 +68,7 @@ impl<'a> Schema<'a> {
         ensures columns { result.now ≡ columns_in self.now }
         ensures few { length result.now ≤ 64 }
     {
-        &self.table.columns[0..self.table.leaves.min(MAX_LEAVES)]
+        self.table.columns.as_slice()
     }
 
     /// The bytes of a name; what of its place passes the image is left out.

@@ -3,13 +3,12 @@ ghost use Rattle.std.specs.Prelude.{◌≡◌, IfOk, string_bytes};
 ghost use Rattle.trace.specs.Texts.{count_text, float16_text, type_text};
 
 use crate::escape::push_name;
-use crate::refusal::refused;
 use crate::table::Table;
 use basic::{ConvertedType, PhysicalType};
-use plan::BuildRefusal;
 use schema::{Column, ColumnPath, Leaf, Schema};
 use std::alloc::{AllocError, Global};
-use trace_file::{Head, HeadError};
+use std::fmt::Write;
+use trace_file::Head;
 
 /// The table's first line.
 const TITLES: [&str; 6] = [
@@ -21,29 +20,12 @@ const TITLES: [&str; 6] = [
     "max repetition",
 ];
 
-/// What a file holds: its columns and a line that says what was read; or the reason why there are none.
-pub(crate) fn report(heap: Global, file: &[u8]) -> Result<String, AllocError> {
-    let head = match Head::read(file) {
-        Ok(head) => head,
-        Err(error) => return no_trace(heap, error, file.len()),
-    };
-    let mut schema = Schema::new();
-    match schema.read(head.file_image) {
-        Ok(()) => listing(heap, &head, &schema),
-        Err(refusal) => refused(heap, BuildRefusal::Image(refusal)),
-    }
-}
-
-/// The line of a file that is no trace. One that is too long was not read to its end.
-pub(crate) fn no_trace(heap: Global, error: HeadError, len: usize) -> Result<String, AllocError> {
-    match error {
-        HeadError::TooLong => format!(in heap; "trace: {error}\n"),
-        _ => format!(in heap; "trace: {error} (file of {len} bytes)\n"),
-    }
-}
-
-/// The table of the columns, and the closing line.
-fn listing(heap: Global, head: &Head<'_>, schema: &Schema<'_>) -> Result<String, AllocError> {
+/// The table of the columns, and a line that says what was read.
+pub(crate) fn listing(
+    heap: Global,
+    head: &Head<'_>,
+    schema: &Schema<'_>,
+) -> Result<String, AllocError> {
     let mut table = Table::new(heap);
     table.push(titles(heap)?)?;
     for (number, column) in schema.columns().iter().enumerate() {
@@ -51,16 +33,15 @@ fn listing(heap: Global, head: &Head<'_>, schema: &Schema<'_>) -> Result<String,
     }
     let mut text = String::new(heap);
     table.write(heap, &mut text)?;
-    text.push_str(closing(heap, head, schema)?.as_str())?;
+    push_closing(heap, &mut text, head, schema)?;
     Ok(text)
 }
 
 fn titles(heap: Global) -> Result<Vec<String>, AllocError> {
-    let mut cells = Vec::new(heap);
-    for title in TITLES {
-        cells.push(String::from_str(heap, title)?)?;
-    }
-    Ok(cells)
+    TITLES
+        .iter()
+        .map(|title| String::from_str(heap, title))
+        .try_collect(heap)
 }
 
 /// The cells of a column.
@@ -114,10 +95,6 @@ fn type_text(heap: Global, leaf: &Leaf) -> Result<String, AllocError>
     }
 }
 
-fn is_decimal(converted: ConvertedType) -> bool {
-    matches!(converted, ConvertedType::Decimal)
-}
-
 /// What a leaf's values stand for; of a decimal also its precision and scale.
 fn converted_text(
     heap: Global,
@@ -126,25 +103,27 @@ fn converted_text(
 ) -> Result<String, AllocError> {
     let precision = leaf.precision;
     let scale = leaf.scale;
-    if is_decimal(converted) {
-        format!(in heap; "{converted}({precision}, {scale})")
-    } else {
-        format!(in heap; "{converted}")
+    match converted {
+        ConvertedType::Decimal => format!(in heap; "{converted}({precision}, {scale})"),
+        _ => format!(in heap; "{converted}"),
     }
 }
 
 /// What a column's values stand for.
 fn annotation_text(heap: Global, column: &Column) -> Result<String, AllocError> {
-    let Some(header) = column.path.headers().last() else {
-        return String::from_str(heap, "-");
-    };
-    match header.annotation {
+    match column
+        .path
+        .headers()
+        .last()
+        .and_then(|header| header.annotation)
+    {
         Some(converted) => converted_text(heap, converted, &column.leaf),
         None => String::from_str(heap, "-"),
     }
 }
 
 /// How many of a thing there are.
+// A text of its own, of which its clause says the bytes.
 pub(crate) fn counted(heap: Global, count: usize, thing: &str) -> Result<String, AllocError>
     ensures { IfOk result (λ s. string_bytes s ≡ count_text count thing.now) }
 {
@@ -152,15 +131,21 @@ pub(crate) fn counted(heap: Global, count: usize, thing: &str) -> Result<String,
     format!(in heap; "{count} {thing}{ending}")
 }
 
-/// The line that says what was read.
-fn closing(heap: Global, head: &Head<'_>, schema: &Schema<'_>) -> Result<String, AllocError> {
+/// Adds the line that says what was read.
+fn push_closing(
+    heap: Global,
+    text: &mut String,
+    head: &Head<'_>,
+    schema: &Schema<'_>,
+) -> Result<(), AllocError> {
     let columns = counted(heap, schema.columns().len(), "column")?;
     let nodes = counted(heap, schema.nodes().len(), "node")?;
     let image = counted(heap, head.file_image.len(), "byte")?;
     let records = counted(heap, head.records as usize, "record")?;
     let size = head.batch_size;
     let batches = counted(heap, head.batches.len(), "byte")?;
-    format!(in heap;
+    write!(
+        text,
         "{columns} of {nodes}, read from a schema image of {image}; {records} announced, batch size {size}, {batches} of batches\n"
     )
 }

@@ -21,6 +21,7 @@ pub enum CommandError<'a> {
 
 impl Command {
     /// The command that the words name.
+    // As plain as a `TryFrom` of a list of words, for which nothing asks.
     pub(crate) fn parse(words: &[String]) -> Result<Command, CommandError<'_>> {
         match words {
             [word] => match word.as_str() {

@@ -1,5 +1,6 @@
 // Names as they are shown: one line, and no two names alike.
 use std::alloc::{AllocError, Global};
+use std::fmt::Write;
 
 /// Characters that are not shown as they are: controls, and those that move or hide the text around them.
 static HIDDEN: [(char, char); 6] = [
@@ -12,23 +13,18 @@ static HIDDEN: [(char, char); 6] = [
 ];
 
 fn is_hidden(c: char) -> bool {
-    for (first, last) in HIDDEN {
-        if first <= c && c <= last {
-            return true;
-        }
-    }
-    false
+    HIDDEN.iter().any(|(first, last)| *first <= c && c <= *last)
 }
 
 /// Adds a name's character to a text.
-fn push_char(heap: Global, text: &mut String, c: char) -> Result<(), AllocError> {
+fn push_char(text: &mut String, c: char) -> Result<(), AllocError> {
     if matches!(c, '.' | '\\' | '"') {
         text.push('\\')?;
         return text.push(c);
     }
     if is_hidden(c) {
         let code = c as u32;
-        return text.push_str(format!(in heap; "\\u{{{code:x}}}")?.as_str());
+        return write!(text, "\\u{{{code:x}}}");
     }
     text.push(c)
 }
@@ -40,7 +36,7 @@ pub(crate) fn push_name(heap: Global, text: &mut String, name: &[u8]) -> Result<
     }
     let name = String::from_utf8_lossy(heap, name)?;
     for c in name.as_str().chars() {
-        push_char(heap, text, c)?;
+        push_char(text, c)?;
     }
     Ok(())
 }

@@ -5,10 +5,12 @@ mod columns;
 mod command;
 mod escape;
 mod refusal;
+mod report;
 mod shape;
 mod table;
 
 use crate::command::Command;
+use crate::report::report;
 use std::io::Read;
 use std::{env, io};
 
@@ -26,13 +28,9 @@ fn main(rt: HostRuntime) -> io::Result<()> {
     let heap = rt.alloc();
     let words: Vec<String> = env::args(&rt)?.skip(1).collect(heap)?;
     match Command::parse(words.as_slice()) {
-        Ok(Command::Columns) => {
+        Ok(command) => {
             let bytes = input(&rt)?;
-            rt.print(columns::report(heap, bytes.as_slice())?)
-        }
-        Ok(Command::Shape) => {
-            let bytes = input(&rt)?;
-            rt.print(shape::report(heap, bytes.as_slice())?)
+            rt.print(report(heap, command, bytes.as_slice())?)
         }
         Err(error) => rt.println(error),
     }

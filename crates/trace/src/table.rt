@@ -1,5 +1,6 @@
 // Lines of cells.
 use std::alloc::{AllocError, Global};
+use std::fmt::Write;
 
 /// How far apart cells stand.
 const GAP: &str = "  ";
@@ -26,50 +27,38 @@ impl Table {
 
     /// The width of the widest cell at an index.
     fn width(&self, index: usize) -> usize {
-        let mut width = 0;
-        for cells in self.lines.iter() {
-            if let Some(cell) = cells.get(index) {
-                width = cell.as_str().chars().count().max(width);
-            }
-        }
-        width
+        self.lines
+            .iter()
+            .filter_map(|cells| cells.get(index))
+            .map(|cell| cell.as_str().chars().count())
+            .max()
+            .unwrap_or(0)
     }
 
     /// The widths at all indexes of the first line.
     fn widths(&self, heap: Global) -> Result<Vec<usize>, AllocError> {
-        let mut widths = Vec::new(heap);
-        if let Some(first) = self.lines.first() {
-            for index in 0..first.len() {
-                widths.push(self.width(index))?;
-            }
-        }
-        Ok(widths)
+        let cells = self.lines.first().map_or(0, |first| first.len());
+        (0..cells).map(|index| self.width(index)).collect(heap)
     }
 
     /// Adds the lines to a text.
     pub(crate) fn write(&self, heap: Global, text: &mut String) -> Result<(), AllocError> {
         let widths = self.widths(heap)?;
         for cells in self.lines.iter() {
-            write_line(heap, text, cells.as_slice(), widths.as_slice())?;
+            write_line(text, cells.as_slice(), widths.as_slice())?;
         }
         Ok(())
     }
 }
 
 /// Adds a line to a text; nothing is filled up after its last cell.
-fn write_line(
-    heap: Global,
-    text: &mut String,
-    cells: &[String],
-    widths: &[usize],
-) -> Result<(), AllocError> {
-    for (index, cell) in cells.iter().enumerate() {
+fn write_line(text: &mut String, cells: &[String], widths: &[usize]) -> Result<(), AllocError> {
+    for (index, (cell, &width)) in cells.iter().zip(widths).enumerate() {
         if index > 0 {
             text.push_str(GAP)?;
         }
         if index + 1 < cells.len() {
-            let width = widths.get(index).copied().unwrap_or(0);
-            text.push_str(format!(in heap; "{cell:<width$}")?.as_str())?;
+            write!(text, "{cell:<width$}")?;
         } else {
             text.push_str(cell.as_str())?;
         }

@@ -11,9 +11,6 @@ use varint::NumberError;
 /// The most bytes that a trace file has.
 const MAX_LEN: usize = 0x7fff_ffff;
 
-/// The most records that a trace file announces.
-const MAX_RECORDS: u64 = 0xffff_ffff;
-
 /// A trace file taken apart: the parts of its head, and the batches after it.
 #[derive(Clone, Copy)]
 pub struct Head<'a> {
@@ -31,6 +28,7 @@ pub struct Head<'a> {
 
 impl<'a> Head<'a> {
     /// Takes a trace file apart.
+    #[tactic(auto, using(crate::proofs::Traces::refused_means, crate::proofs::Traces::read_back))]
     pub fn read(bytes: &'a [u8]) -> Result<Head<'a>, HeadError>
         ensures as_read { AsRead result bytes.now }
         ensures means { Means result bytes.now }
@@ -41,15 +39,13 @@ impl<'a> Head<'a> {
         }
         let (file_image, rest) = image(bytes, Part::FileImage)?;
         let (read_image, rest) = image(rest, Part::ReadImage)?;
-        let (records, rest) = number(rest, Part::Records)?;
-        if records > MAX_RECORDS {
-            return Err(HeadError::ManyRecords);
-        }
+        let (announced, rest) = number(rest, Part::Records)?;
+        let records = u32::try_from(announced).map_err(|_| HeadError::ManyRecords)?;
         let (batch_size, batches) = number(rest, Part::BatchSize)?;
         Ok(Head {
             file_image,
             read_image,
-            records: records as u32,
+            records,
             batch_size,
             batches,
         })
@@ -62,11 +58,11 @@ fn number(bytes: &[u8], part: Part) -> Result<(u64, &[u8]), HeadError>
     ensures stood { Stood encoding result bytes.now }
     ensures bound { IfOk result (λ p. p.0 < 2 ^ 64) }
 {
-    match varint::number(bytes, 0) {
-        Ok((value, next)) => Ok((value, &bytes[next..])),
-        Err(NumberError::Truncated) => Err(HeadError::Truncated(part)),
-        Err(NumberError::BadForm) => Err(HeadError::BadForm(part)),
-    }
+    let (value, next) = varint::number(bytes, 0).map_err(|error| match error {
+        NumberError::Truncated => HeadError::Truncated(part),
+        NumberError::BadForm => HeadError::BadForm(part),
+    })?;
+    Ok((value, &bytes[next..]))
 }
 
 /// The length that the bytes begin with, so many bytes after it, and the bytes after them.
@@ -75,8 +71,6 @@ fn image(bytes: &[u8], part: Part) -> Result<(&[u8], &[u8]), HeadError>
     ensures stood { Stood (λ image. image_bytes image.now) result bytes.now }
 {
     let (len, rest) = number(bytes, part)?;
-    if len > rest.len() as u64 {
-        return Err(HeadError::Truncated(part));
-    }
-    Ok(rest.split_at(len as usize))
+    rest.split_at_checked(len as usize)
+        .ok_or(HeadError::Truncated(part))
 }

@@ -11,13 +11,13 @@ due_join d [] ys = refl
 due_join d (x ∷ xs) ys = due_join (follow d x) xs ys
 
 none_some : {A : Type 0} {x : A} → None ≡ Some x → ⊥
-none_some {A} {x} p = let z : ◌≡◌ {A = ℕ} 0 1 = cc in omega arith
+none_some {A} {x} p = cc
 
 same_some : {A : Type 0} {x y : A} → Some x ≡ Some y → x ≡ y
 same_some p = cc
 
 false_true : false ≡ true → ⊥
-false_true p = let z : ◌≡◌ {A = ℕ} 0 1 = cc in omega arith
+false_true p = cc
 
 -- A range that let a byte through.
 passed : (r : Range) (b : ℕ) (rs qs : List Range) → cond (in_range r b) (Some rs) None ≡ Some qs → (in_range r b ≡ true) × (rs ≡ qs)
@@ -83,7 +83,7 @@ closes d (b ∷ bs) e = before d b bs (closes (follow d b) bs e)
 nothing-due : (ranges : List Range) (ends rest bs : List ℕ) → Some [] ≡ Some ranges → bs ≡ ends ++ rest → Fits ranges ends → WellFormed rest → WellFormed bs
 nothing-due [] [] rest bs e s f w = subst WellFormed (sym s) w
 nothing-due [] (b ∷ ends) rest bs e s f w = absurd f
-nothing-due (r ∷ rs) ends rest bs e s f w = absurd (let z : ◌≡◌ {A = ℕ} 0 1 = cc in omega arith)
+nothing-due (r ∷ rs) ends rest bs e s f w = absurd (cc)
 
 -- What passes the test is well-formed.
 pub sound : (bs : List ℕ) → well_formed bs ≡ true → WellFormed bs

@@ -77,6 +77,7 @@ static CLASSES: [[ByteClass; 8]; 32] = [
 
 impl ByteClass {
     /// The class of a byte.
+    // No `From`: what it says is no equation, but that the byte is alike the first of its class.
     pub(crate) fn of(byte: u8) -> ByteClass
         ensures { Alike byte (first_of result) }
     {

@@ -92,10 +92,12 @@ mod tests {
     fn boundaries(rt: HostRuntime) {
         for (bytes, answer) in CASES {
             assert_eq!(rt; is_utf8(bytes), answer);
+            // By number: a cut is a place between bytes, and no byte.
             for cut in 0..bytes.len() {
+                let (front, back) = bytes.split_at(cut);
                 let mut pieces = Utf8Check::new();
-                pieces.feed(&bytes[0..cut]);
-                pieces.feed(&bytes[cut..]);
+                pieces.feed(front);
+                pieces.feed(back);
                 assert_eq!(rt; pieces.is_well_formed(), answer);
             }
         }

@@ -5,9 +5,9 @@ use Rattle.value.specs.Numbers.{big_endian}
 use Rattle.value.specs.Leaves.{fitting, shown}
 use Rattle.value.specs.Examples.{ShownExamples, FittingExamples}
 
-pub shown-examples : ShownExamples
+pub shown_examples : ShownExamples
 unfolding shown big_endian
-shown-examples =
+shown_examples =
     record {
       narrowed = refl;
       negative = refl;
@@ -23,9 +23,9 @@ shown-examples =
       text = refl;
     }
 
-pub fitting-examples : FittingExamples
+pub fitting_examples : FittingExamples
 unfolding fitting well_formed
-fitting-examples =
+fitting_examples =
     record {
       boolean = refl;
       int32 = refl;

@@ -1,8 +1,9 @@
 -- Signed numbers and their words. Assumes nothing.
-use Rattle.std.proofs.Common.{◌≡◌, ℕ, suc, ◌%◌, ◌^◌, ◌<◌, ℤ, pos, negsuc, ◌+ℤ◌, ◌-ℤ◌, ◌*ℤ◌, neg_ℤ, sym, ap, ◌∙◌, subst, arith, w64, SFits, to_z, of_z, rules}
+use Rattle.std.proofs.Common.{◌≡◌, ℕ, suc, ◌-◌, ◌*◌, ◌%◌, ◌^◌, ◌<◌, ◌≤◌, ℤ, pos, negsuc, ◌+ℤ◌, ◌-ℤ◌, ◌*ℤ◌, neg_ℤ, sym, ap, ◌∙◌, subst, arith, pow_mono, w64, SFits, to_z, of_z, rules}
 use lib.Signed.{mag, quot_z}
 use Rattle.std.proofs.lemmas.Int.{ints, to_z-of_z, of_z-to_z}
-use Rattle.std.proofs.lemmas.Nat.{div-add-mod'}
+use Rattle.std.proofs.lemmas.Nat.{div-add-mod', mod_below, pow_pos}
+use native.Mathlib.Nat.{pow-succ'}
 use Rattle.value.specs.Numbers.{signed, word_of, Cut}
 
 -- as the toolchain reads signed numbers
@@ -18,17 +19,13 @@ signed_word_of (negsuc n) h = (omega arith, grind (arith, ints))
 pub word_of_signed : (n : ℕ) → n < 2 ^ 64 → word_of (signed 64 n) ≡ n
 word_of_signed n h = ap word_of (signed64_is n h) ∙ of_z-to_z w64 n h
 
-pub mag8 : (n : ℕ) → mag (signed 8 n) < 2 ^ 63
-mag8 n = grind (arith, ints)
-
-pub mag16 : (n : ℕ) → mag (signed 16 n) < 2 ^ 63
-mag16 n = grind (arith, ints)
-
-pub mag32 : (n : ℕ) → mag (signed 32 n) < 2 ^ 63
-mag32 n = grind (arith, ints)
-
-pub mag64 : (n : ℕ) → mag (signed 64 n) < 2 ^ 63
-mag64 n = grind (arith, ints)
+-- a signed number of so many bits is small
+pub mag_signed : (bits n : ℕ) → 0 < bits → bits ≤ 64 → mag (signed bits n) < 2 ^ 63
+mag_signed bits n some fits =
+    let half : 2 ^ bits ≡ 2 * 2 ^ (bits - 1) = ap (λ k. 2 ^ k) (omega arith) ∙ pow-succ' 2 (bits - 1) in
+    let most : 2 ^ (bits - 1) ≤ 2 ^ 63 = (let le : bits - 1 ≤ 63 = omega arith in pow_mono le) in
+    let low : n % 2 ^ bits < 2 ^ bits = mod_below n (2 ^ bits) (pow_pos bits) in
+    grind (arith, ints)
 
 -- the quotient of the toolchain is cut toward zero
 pub cut_quotient : (z : ℤ) → Cut z 1000000 (quot_z z (pos 1000000))

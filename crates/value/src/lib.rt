@@ -6,7 +6,7 @@ mod shown;
 mod types;
 
 pub use crate::leaf::LeafType;
-pub use crate::shown::{decimal4, decimal8, float16, shown_word, word_fits};
+pub use crate::shown::{Decimal, float16, shown_word, word_fits};
 pub use crate::types::{Int96, Run, Value};
 
 #[cfg(test)]
@@ -68,7 +68,7 @@ mod tests {
         assert_eq!(rt; float16(&[0x00, 0x3c]), Some(15360));
         assert_eq!(rt; float16(&[0x3c]), None);
         assert_eq!(rt; float16(&[0, 0x3c, 0]), None);
-        assert_eq!(rt; decimal4(0xffff_fe0c), [0xff, 0xff, 0xfe, 0x0c]);
-        assert_eq!(rt; decimal8(258), [0, 0, 0, 0, 0, 0, 1, 2]);
+        assert_eq!(rt; 0xffff_fe0c_u32.decimal(), [0xff, 0xff, 0xfe, 0x0c]);
+        assert_eq!(rt; 258_u64.decimal(), [0, 0, 0, 0, 0, 0, 1, 2]);
     }
 }

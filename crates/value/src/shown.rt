@@ -1,5 +1,5 @@
 // What values are shown as.
-ghost use Rattle.std.specs.Prelude.{◌≡◌, ℕ, ◌%◌, ◌^◌, length, pos, ◌-ℤ◌, if◌then◌else◌, Some, None, nat_eq};
+ghost use Rattle.std.specs.Prelude.{◌≡◌, ℕ, ◌%◌, ◌^◌, ◌<◌, length, pos, ◌-ℤ◌, if◌then◌else◌, Some, None, nat_eq};
 ghost use Rattle.std.specs.Int.Digits.{number_from_digits, AllBelowBase};
 ghost use Rattle.value.specs.Numbers.{signed, word_of, big_endian, little_endian, day_of, nanos_of, days_in_millis, millis_of, Cut};
 ghost use Rattle.value.specs.Leaves.{word_fits, reading, read_as, Reads};
@@ -17,6 +17,7 @@ const MILLISECONDS_IN_DAY: i64 = 86_400_000;
 const NANOSECONDS_IN_MILLISECOND: i64 = 1_000_000;
 
 /// Whether a leaf of this physical type takes the word.
+#[tactic(auto, using(crate::proofs::Samples::fitting_examples))]
 pub fn word_fits(physical: PhysicalType, word: u64) -> bool
     ensures fits { result ≡ word_fits physical word }
     ensures worked_examples { FittingExamples }
@@ -31,18 +32,19 @@ pub fn word_fits(physical: PhysicalType, word: u64) -> bool
 
 /// The word that a leaf of this kind shows for a stored word: a signed one is narrowed to its width and extended by its
 /// sign, an unsigned one narrowed. A kind that shows no word gives 0.
+#[tactic(auto, using(crate::proofs::Readings::means, crate::proofs::Readings::whole_signed, crate::proofs::Readings::whole_plain, crate::proofs::Samples::shown_examples))]
 pub fn shown_word(kind: FieldKind, word: u64) -> u64
     ensures shows { result ≡ read_as (reading kind) word }
     ensures means { Reads (reading kind) word result }
     ensures worked_examples { ShownExamples }
 {
     match kind {
-        FieldKind::Byte => extended8(low8(word)),
-        FieldKind::Short => extended16(low16(word)),
-        FieldKind::Int | FieldKind::Date | FieldKind::TimeMillis => extended32(low32(word)),
-        FieldKind::UByte => u64::from(low8(word)),
-        FieldKind::UShort | FieldKind::Float16 => u64::from(low16(word)),
-        FieldKind::UInt => u64::from(low32(word)),
+        FieldKind::Byte => extended(word, 8),
+        FieldKind::Short => extended(word, 16),
+        FieldKind::Int | FieldKind::Date | FieldKind::TimeMillis => extended(word, 32),
+        FieldKind::UByte => low(word, 8),
+        FieldKind::UShort | FieldKind::Float16 => low(word, 16),
+        FieldKind::UInt => low(word, 32),
         FieldKind::Bool
         | FieldKind::Long
         | FieldKind::ULong
@@ -61,42 +63,27 @@ pub fn shown_word(kind: FieldKind, word: u64) -> u64
     }
 }
 
-/// The low bits of a word.
-fn low8(word: u64) -> u8
-    ensures { result ≡ word % 2 ^ 8 }
+/// The low bits of a word, so many.
+fn low(word: u64, bits: u32) -> u64
+    requires { bits < 64 }
+    ensures { result ≡ word % 2 ^ bits }
 {
-    (word % 0x100) as u8
+    word % (1 << bits)
 }
 
-fn low16(word: u64) -> u16
-    ensures { result ≡ word % 2 ^ 16 }
+/// The word of 64 bits with the signed value of the low bits of a word, so many.
+// By arithmetic, for every width: a cast is to one width, and would be three texts.
+fn extended(word: u64, bits: u32) -> u64
+    requires some { 0 < bits }
+    requires fewer { bits < 64 }
+    ensures { result ≡ word_of (signed bits word) }
 {
-    (word % 0x1_0000) as u16
-}
-
-fn low32(word: u64) -> u32
-    ensures { result ≡ word % 2 ^ 32 }
-{
-    (word % 0x1_0000_0000) as u32
-}
-
-/// The word of 64 bits with the same signed value.
-fn extended8(byte: u8) -> u64
-    ensures { result ≡ word_of (signed 8 byte) }
-{
-    i64::from(byte.cast_signed()).cast_unsigned()
-}
-
-fn extended16(short: u16) -> u64
-    ensures { result ≡ word_of (signed 16 short) }
-{
-    i64::from(short.cast_signed()).cast_unsigned()
-}
-
-fn extended32(int: u32) -> u64
-    ensures { result ≡ word_of (signed 32 int) }
-{
-    i64::from(int.cast_signed()).cast_unsigned()
+    let plain = low(word, bits);
+    if plain < 1 << (bits - 1) {
+        plain
+    } else {
+        plain.wrapping_sub(1 << bits)
+    }
 }
 
 impl Int96 {
@@ -134,18 +121,29 @@ pub fn float16(bytes: &[u8]) -> Option<u16>
     }
 }
 
-/// The bytes of a decimal that is stored as an INT32, the highest first.
-pub fn decimal4(int: u32) -> [u8; 4]
-    ensures shows { result ≡ big_endian 4 int }
-    ensures writes { (length result ≡ 4) × AllBelowBase 256 result × (number_from_digits 256 result ≡ int) }
-{
-    int.to_be_bytes()
+/// A number that a decimal is stored as, in so many bytes: an INT32 or an INT64.
+pub trait Decimal<const N: usize>: Sized {
+    ghost number: { Self → ℕ };
+
+    /// The bytes of the decimal, the highest first.
+    fn decimal(self) -> [u8; N]
+        ensures shows { result ≡ big_endian N (number self) }
+        ensures writes { (length result ≡ N) × AllBelowBase 256 result × (number_from_digits 256 result ≡ number self) };
 }
 
-/// The bytes of a decimal that is stored as an INT64, the highest first.
-pub fn decimal8(long: u64) -> [u8; 8]
-    ensures shows { result ≡ big_endian 8 long }
-    ensures writes { (length result ≡ 8) × AllBelowBase 256 result × (number_from_digits 256 result ≡ long) }
-{
-    long.to_be_bytes()
+// Each impl has a body of its own: `to_be_bytes` stands in no trait of std that one text for both could use.
+impl Decimal<4> for u32 {
+    ghost number = { λ int. int };
+
+    fn decimal(self) -> [u8; 4] {
+        u32::to_be_bytes(self)
+    }
+}
+
+impl Decimal<8> for u64 {
+    ghost number = { λ long. long };
+
+    fn decimal(self) -> [u8; 8] {
+        u64::to_be_bytes(self)
+    }
 }

@@ -2,7 +2,7 @@
 
 /// Three numbers of 32 bits, as a legacy timestamp is stored: nanoseconds of the day in the first two,
 /// lowest first, and the day in the third.
-#[derive(Clone, Copy)]
+#[derive(Clone, Copy, Debug, Default, PartialEq, Eq)]
 pub struct Int96 {
     pub low: u32,
     pub middle: u32,
@@ -10,14 +10,14 @@ pub struct Int96 {
 }
 
 /// Bytes of a source's pool: where they begin, and how many there are.
-#[derive(Clone, Copy)]
+#[derive(Clone, Copy, Debug, Default, PartialEq, Eq)]
 pub struct Run {
     pub place: u64,
     pub length: u32,
 }
 
 /// A value of one of the three kinds.
-#[derive(Clone, Copy)]
+#[derive(Clone, Copy, Debug, PartialEq, Eq)]
 pub enum Value {
     Word(u64),
     Int96(Int96),

@@ -30,15 +30,13 @@ value_answer (Ok p) bs i n front rest reads same is =
     λ j. Ok (v j, place j)
 value_answer (Err e) bs i n front rest reads same is =
     let g = sym (ap number_in same ∙ is) ∙ reads in
-    let q : ◌≡◌ {A = ℕ} 0 1 = cc in
-    absurd (omega arith)
+    absurd (cc)
 
 -- where the parser refuses, that is the answer
 refusal_answer : (r : Answer) (bs : List ℕ) (i : ℕ) (e : NumberError) → Parses r bs i → number_in (drop i bs) ≡ refused e → r ≡ Err e
 refusal_answer (Ok p) bs i e reads is =
     let g = sym is ∙ reads.2 in
-    let q : ◌≡◌ {A = ℕ} 0 1 = cc in
-    absurd (omega arith)
+    absurd (cc)
 refusal_answer (Err x) bs i e reads is = ap Err (let g = sym reads ∙ is in cc)
 
 means : (r : Answer) (bs : List ℕ) (i : ℕ) → AllByRecursion (λ b. b < 256) (drop i bs) → Parses r bs i → Means r bs i

@@ -66,7 +66,7 @@ reads_back n rest h = reads 9 n rest h
 
 -- a refusal is no value
 apart : {A : Type 0} {e : NumberError} {x : A} {rest : List ℕ} → refused e ≡ got x rest → ⊥
-apart {A} {e} {x} {rest} p = let q : ◌≡◌ {A = ℕ} 0 1 = cc in omega arith
+apart p = cc
 
 same_value : {A : Type 0} {x y : A} {r s : List ℕ} → ◌≡◌ {A = Parsed NumberError A} (got x r) (got y s) → x ≡ y
 same_value p = cc

@@ -1,7 +1,11 @@
 -- What the loop of `number` keeps. Assumes nothing.
-use Rattle.std.proofs.Common.{◌≡◌, ℕ, zero, suc, ◌+◌, ◌-◌, ◌*◌, ◌%◌, ◌^◌, ◌<◌, ◌≤◌, true, false, cond, ◌&&◌, eqb, ltb, List, ◌∷◌, length, get_or, drop, sym, refl, ap, ◌∙◌, ⊎_elim, le_refl, mul_assoc, mul_comm, mul-add, add-one, arith, drop_of_length-le, drop-cons, pow_mono, pow-add}
+use Rattle.std.proofs.Common.{◌≡◌, ℕ, zero, suc, ◌+◌, ◌-◌, ◌*◌, ◌%◌, ◌^◌, ◌<◌, ◌≤◌, true, false, cond, ◌&&◌, eqb, ltb, List, [], ◌∷◌, length, get_or, drop, Some, None, Option, sym, refl, ap, ◌∙◌, ⊎_elim, le_refl, mul_assoc, mul_comm, mul-add, add-one, arith, drop_of_length-le, drop-cons, pow_mono, pow-add}
+use Rattle.std.specs.Borrow.{Bor}
+use Rattle.std.specs.Option.{unwrap_or}
+use Rattle.std.specs.Slice.{IsGetRangeResult}
+use Rattle.std.proofs.lemmas.List.{take_rest}
 use Rattle.std.proofs.lemmas.Nat.{shl_whole, mul-le}
-use Rattle.std.proofs.lemmas.Bool.{and_left, and_right, eq-eqb, ne_eqb, lt-ltb, le-ltb, cases_eq, cases_lt}
+use Rattle.std.proofs.lemmas.Bool.{and_left, and_right, eq-eqb, ne_eqb, lt-ltb, le-ltb, cases_eq}
 use Rattle.varint.specs.declared.NumberError.{NumberError}
 use Rattle.varint.specs.declared.NumberError.TheVariants.{Truncated, BadForm}
 use Rattle.varint.specs.Parsed.{Parsed, got, refused, and_then}
@@ -41,6 +45,11 @@ after-lead s v low (refused e) = refl
 from_here : (bs : List ℕ) (i b : ℕ) → i < length bs → b ≡ get_or bs i 0 → drop i bs ≡ b ∷ drop (i + 1) bs
 from_here bs i b h e = rw (add-one, drop-cons bs i 0 h, ← e)
 
+-- the bytes from a place on, of which there are none where it is past their end
+pub from_place : (bs : List ℕ) (at : ℕ) (found : Option (Bor (List ℕ))) (none : Bor (List ℕ)) → IsGetRangeResult bs at (length bs) found → none.now ≡ [] → drop at bs ≡ (unwrap_or found none).now
+from_place bs at None none p e = drop_of_length-le bs (⊎_elim (λ h. omega arith) (λ h. omega arith) p.0) ∙ sym e
+from_place bs at (Some rest) none p e = sym (p.0.2 ∙ take_rest bs at)
+
 -- a group fits, at its place
 pub record Fitting (s v x : ℕ) : Type 0 where
   pub whole : (x * 2 ^ s) % 2 ^ 64 ≡ x * 2 ^ s
@@ -71,24 +80,24 @@ fitting k s v x e hv hx top =
     })
     (cases_eq s 63)
 
--- what the turns so far have read, from i to j: s bits worth v, after which `left` more groups may follow the one at j
-pub record Sofar (bs : List ℕ) (i j s v : ℕ) : Type 0 where
+-- what the turns so far have read, up to j: s bits worth v, after which `left` more groups may follow the one at j
+pub record Sofar (bs : List ℕ) (j s v : ℕ) : Type 0 where
   pub left : ℕ
-  pub place : s + 7 * left ≡ 63
-  pub first : s ≡ 7 * (j - i)
+  pub place : j + left ≡ 9
+  pub shift : s ≡ 7 * j
   pub bound : v < 2 ^ s
-  pub rest : number_in (drop i bs) ≡ after s v (groups_in left (drop j bs))
+  pub rest : number_in bs ≡ after s v (groups_in left (drop j bs))
 
-pub started : (bs : List ℕ) (i : ℕ) → Sofar bs i i 0 0
+pub started : (bs : List ℕ) → Sofar bs 0 0 0
 unfolding number_in
-started bs i = record { left = 9; place = omega arith; first = omega arith; bound = omega arith; rest = after_none _ }
+started bs = record { left = 9; place = omega arith; shift = omega arith; bound = omega arith; rest = after_none _ }
 
-pub ended : {bs : List ℕ} {i j s v : ℕ} → Sofar bs i j s v → length bs ≤ j → number_in (drop i bs) ≡ refused Truncated
-ended {bs} {i} {j} h over = rw (h.rest, drop_of_length-le bs over, in_none h.left)
+pub ended : {bs : List ℕ} {j s v : ℕ} → Sofar bs j s v → length bs ≤ j → number_in bs ≡ refused Truncated
+ended {bs} {j} h over = rw (h.rest, drop_of_length-le bs over, in_none h.left)
 
-module _ {bs : List ℕ} {i j s v : ℕ} (h : Sofar bs i j s v) (b : ℕ) (inside : j < length bs) (is : b ≡ get_or bs j 0) where
+module _ {bs : List ℕ} {j s v : ℕ} (h : Sofar bs j s v) (b : ℕ) (inside : j < length bs) (is : b ≡ get_or bs j 0) where
   -- the byte is past what a tenth group may be
-  pub too_high : s ≡ 63 → 1 < b → number_in (drop i bs) ≡ refused BadForm
+  pub too_high : j ≡ 9 → 1 < b → number_in bs ≡ refused BadForm
   too_high top big =
       let none : h.left ≡ 0 = omega (arith, h.place) in
       rw (h.rest, from_here bs j b inside is, none, in_past b (drop (j + 1) bs) big)
@@ -99,38 +108,42 @@ module _ {bs : List ℕ} {i j s v : ℕ} (h : Sofar bs i j s v) (b : ℕ) (insid
   last (suc k) l ok = rw (from_here bs j b inside is) (in_last k b (drop (j + 1) bs) l)
 
   -- a last group of 0
-  pub zero_group : b ≡ 0 → i < j → number_in (drop i bs) ≡ refused BadForm
+  pub zero_group : b ≡ 0 → 0 < j → number_in bs ≡ refused BadForm
   zero_group z more =
       let g = last h.left (omega arith) (λ _. omega arith) in
       let e = eq-eqb b 0 z in
-      let m = lt-ltb 0 s (omega (arith, h.first)) in
+      let m = lt-ltb 0 s (omega (arith, h.shift)) in
       rw (h.rest, g, e, m)
 
-  pub last_group : i ≤ j → b < 128 → (s ≡ 63 → b ≤ 1) → (b ≡ 0 → i < j → ⊥) → number_in (drop i bs) ≡ got (v + b * 2 ^ s) (drop (j + 1) bs)
-  last_group le l top ok =
+  pub last_group : b < 128 → (j ≡ 9 → b ≤ 1) → (b ≡ 0 → j ≡ 0) → number_in bs ≡ got (v + b * 2 ^ s) (drop (j + 1) bs)
+  last_group l top first =
       let g = last h.left l (λ z. top (omega (arith, h.place))) in
       let e : (eqb b 0 && ltb 0 s) ≡ false =
-      ⊎_elim (λ z. and_right (eqb b 0) (ltb 0 s) (le-ltb 0 s (⊎_elim (λ m. absurd (ok z m)) (λ m. omega (arith, h.first)) (cases_lt i j)))) (λ nz. and_left (eqb b 0) (ltb 0 s) (ne_eqb b 0 nz)) (cases_eq b 0)
+      ⊎_elim (λ z. and_right (eqb b 0) (ltb 0 s) (le-ltb 0 s (omega (arith, h.shift, first z)))) (λ nz. and_left (eqb b 0) (ltb 0 s) (ne_eqb b 0 nz)) (cases_eq b 0)
       in
       let c : v + 2 ^ s * b ≡ v + b * 2 ^ s = ap (λ n. v + n) (mul_comm (2 ^ s) b) in
       rw (h.rest, g, e) (rw c)
 
+  -- the group fits
+  pub group_fits : (x : ℕ) → x < 128 → (j ≡ 9 → x ≤ 1) → Fitting s v x
+  group_fits x small top = fitting h.left s v x (omega (arith, h.place, h.shift)) h.bound small (λ z. top (omega (arith, h.shift)))
+
   -- a leading group: s' bits worth v' are then read
-  pub more_groups : (s' v' : ℕ) → i ≤ j → 128 ≤ b → b < 256 → (s ≡ 63 → ⊥) → s' ≡ s + 7 → v' ≡ v + (b % 128) * 2 ^ s → Sofar bs i (j + 1) s' v'
-  more_groups s' v' le high byte ne es ev =
-      let f = fitting h.left s v (b % 128) h.place h.bound (omega arith) (λ z. absurd (ne z)) in
+  pub more_groups : (s' v' : ℕ) → 128 ≤ b → b < 256 → (j ≡ 9 → ⊥) → s' ≡ s + 7 → v' ≡ v + (b % 128) * 2 ^ s → Sofar bs (j + 1) s' v'
+  more_groups s' v' high byte ne es ev =
+      let f = group_fits (b % 128) (omega arith) (λ z. absurd (ne z)) in
       let k = h.left - 1 in
       let left : h.left ≡ suc k = omega (arith, h.place) in
       let low : b - 128 ≡ b % 128 = omega arith in
       let g : groups_in h.left (drop j bs) ≡ lead (b % 128) (groups_in k (drop (j + 1) bs)) =
       ap (λ n. groups_in n (drop j bs)) left ∙ rw (from_here bs j b inside is) (in_lead k b (drop (j + 1) bs) high ∙ ap (λ n. lead n (groups_in k (drop (j + 1) bs))) low)
       in
-      let next : Sofar bs i (j + 1) (s + 7) (v + (b % 128) * 2 ^ s) =
+      let next : Sofar bs (j + 1) (s + 7) (v + (b % 128) * 2 ^ s) =
       record {
         left = k;
         place = omega (arith, h.place);
-        first = omega (arith, h.first);
-        bound = f.more (omega (arith, h.place));
+        shift = omega (arith, h.shift);
+        bound = f.more (omega (arith, h.place, h.shift));
         rest = h.rest ∙ ap (after s v) g ∙ after-lead s v (b % 128) (groups_in k (drop (j + 1) bs));
       }
       in

@@ -11,10 +11,10 @@ use Rattle.varint.proofs.Encoding.{room, room_two, groups-one, groups-more, in_n
 
 -- a refusal is no value, and one is not the other
 no_value : {A : Type 0} {e : NumberError} {x : A} {rest : List ℕ} → got x rest ≡ refused e → ⊥
-no_value {A} {e} {x} {rest} p = let q : ◌≡◌ {A = ℕ} 0 1 = cc in omega arith
+no_value {A} {e} {x} {rest} p = cc
 
 not_both : {A : Type 0} → ◌≡◌ {A = Parsed NumberError A} (refused BadForm) (refused Truncated) → ⊥
-not_both p = let q : ◌≡◌ {A = ℕ} 0 1 = cc in omega arith
+not_both p = cc
 
 -- groups that end too early do so after the leading one
 led_short : (low : ℕ) (p : Parsed NumberError ℕ) → lead low p ≡ refused Truncated → p ≡ refused Truncated

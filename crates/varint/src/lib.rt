@@ -16,8 +16,8 @@ pub enum NumberError {
     BadForm,
 }
 
-/// How far a tenth group is shifted.
-const TENTH_SHIFT: u32 = 63;
+/// The index of a tenth group.
+const TENTH: usize = 9;
 
 /// The most that a tenth group may be: one bit is left below 2^64.
 const TENTH_MAX: u8 = 1;
@@ -29,21 +29,19 @@ pub fn number(bytes: &[u8], at: usize) -> Result<(u64, usize), NumberError>
     ensures reads_back { ReadsBack result bytes.now at }
     ensures examples { Examples result bytes.now at }
 {
+    let rest = bytes.get(at..).unwrap_or(&[]);
     let mut value: u64 = 0;
-    let mut shift: u32 = 0;
-    for next in at..bytes.len() {
-        let byte = bytes[next];
-        if shift == TENTH_SHIFT && byte > TENTH_MAX {
+    for (index, &byte) in rest.iter().enumerate() {
+        if index == TENTH && byte > TENTH_MAX {
             return Err(NumberError::BadForm);
         }
-        value += u64::from(byte & 0x7f) << shift;
+        value += u64::from(byte & 0x7f) << (7 * index);
         if byte < 0x80 {
-            if byte == 0 && next > at {
+            if byte == 0 && index > 0 {
                 return Err(NumberError::BadForm);
             }
-            return Ok((value, next + 1));
+            return Ok((value, at + index + 1));
         }
-        shift += 7;
     }
     Err(NumberError::Truncated)
 }

@@ -4,12 +4,14 @@ use basic::Code;
 use plan::{Form, Plan, ShapeEntry};
 use schema::{Body, Column, Header, ImageRefusal, NodeEntry, Schema};
 use std::alloc::{AllocError, Global};
+use std::fmt::Write;
 use trace_file::{Head, HeadError};
 use utf8::{Utf8Check, is_utf8};
 use varint::{NumberError, number};
 
 /// The answer to the bytes of a case.
 pub(crate) fn answer(heap: Global, group: Group, bytes: &[u8]) -> Result<String, AllocError> {
+    // A match on the closed list of groups: a table of functions would hold the same list, and a pointer for each.
     match group {
         Group::Utf8 => String::from_str(heap, utf8_text(bytes)),
         Group::Number => number_text(heap, bytes),
@@ -23,18 +25,14 @@ pub(crate) fn answer(heap: Global, group: Group, bytes: &[u8]) -> Result<String,
 /// `yes` or `no`; `mixed` where bytes fed in pieces are told otherwise than whole.
 fn utf8_text(bytes: &[u8]) -> &'static str {
     let whole = is_utf8(bytes);
-    for cut in 0..bytes.len() {
-        if in_two(&bytes[0..cut], &bytes[cut..]) != whole {
-            return "mixed";
-        }
-    }
-    if byte_by_byte(bytes) != whole {
+    let alike = (0..bytes.len()).all(|cut| in_two(bytes.split_at(cut)) == whole);
+    if !alike || byte_by_byte(bytes) != whole {
         return "mixed";
     }
     if whole { "yes" } else { "no" }
 }
 
-fn in_two(front: &[u8], back: &[u8]) -> bool {
+fn in_two((front, back): (&[u8], &[u8])) -> bool {
     let mut check = Utf8Check::new();
     check.feed(front);
     check.feed(back);
@@ -66,6 +64,7 @@ fn refusal_text(heap: Global, refusal: ImageRefusal) -> Result<String, AllocErro
 /// How many nodes there are, and each column.
 fn image_text(heap: Global, bytes: &[u8]) -> Result<String, AllocError> {
     let mut schema = Schema::new();
+    // No `?`: a refusal is an answer here.
     if let Err(refusal) = schema.read(bytes) {
         return refusal_text(heap, refusal);
     }
@@ -74,7 +73,7 @@ fn image_text(heap: Global, bytes: &[u8]) -> Result<String, AllocError> {
     let mut text = format!(in heap; "ok {nodes} {columns}")?;
     for column in schema.columns() {
         text.push(' ')?;
-        push_column(heap, &mut text, &schema, column)?;
+        push_column(&mut text, &schema, column)?;
     }
     Ok(text)
 }
@@ -82,50 +81,41 @@ fn image_text(heap: Global, bytes: &[u8]) -> Result<String, AllocError> {
 /// Each node.
 fn nodes_text(heap: Global, bytes: &[u8]) -> Result<String, AllocError> {
     let mut schema = Schema::new();
+    // No `?`: a refusal is an answer here.
     if let Err(refusal) = schema.read(bytes) {
         return refusal_text(heap, refusal);
     }
     let mut text = String::from_str(heap, "ok")?;
     for node in schema.nodes() {
         text.push(' ')?;
-        push_node(heap, &mut text, &schema, node)?;
+        push_node(&mut text, &schema, node)?;
     }
     Ok(text)
 }
 
 /// Adds bytes in hexadecimal.
-fn push_hex(heap: Global, text: &mut String, bytes: &[u8]) -> Result<(), AllocError> {
+fn push_hex(text: &mut String, bytes: &[u8]) -> Result<(), AllocError> {
     for byte in bytes {
-        text.push_str(format!(in heap; "{byte:02x}")?.as_str())?;
+        write!(text, "{byte:02x}")?;
     }
     Ok(())
 }
 
 /// Adds a name in hexadecimal, its node's repetition and annotation.
-fn push_header(
-    heap: Global,
-    text: &mut String,
-    schema: &Schema<'_>,
-    header: &Header,
-) -> Result<(), AllocError> {
-    push_hex(heap, text, schema.text(header.name))?;
+fn push_header(text: &mut String, schema: &Schema<'_>, header: &Header) -> Result<(), AllocError> {
+    push_hex(text, schema.text(header.name))?;
     let repetition = <basic::Repetition as Code>::code(header.repetition);
     let annotation = <Option<basic::ConvertedType> as Code>::code(header.annotation);
-    text.push_str(format!(in heap; ".{repetition}.{annotation}")?.as_str())
+    write!(text, ".{repetition}.{annotation}")
 }
 
 /// Adds a column: its path, its leaf, and its greatest levels.
-fn push_column(
-    heap: Global,
-    text: &mut String,
-    schema: &Schema<'_>,
-    column: &Column,
-) -> Result<(), AllocError> {
+fn push_column(text: &mut String, schema: &Schema<'_>, column: &Column) -> Result<(), AllocError> {
     for (index, header) in column.path.headers().iter().enumerate() {
         if index > 0 {
             text.push('/')?;
         }
-        push_header(heap, text, schema, header)?;
+        push_header(text, schema, header)?;
     }
     let physical = <basic::PhysicalType as Code>::code(column.leaf.physical);
     let length = column.leaf.length;
@@ -134,28 +124,22 @@ fn push_column(
     let float16 = <bool as Code>::code(column.leaf.float16);
     let definition = column.max_def_level;
     let repetition = column.max_rep_level;
-    let rest = format!(in heap;
+    write!(
+        text,
         ":{physical},{length},{scale},{precision},{float16}:{definition}:{repetition}"
-    )?;
-    text.push_str(rest.as_str())
+    )
 }
 
 /// Adds a node: its header, and a group's number of fields or a leaf's physical type.
-fn push_node(
-    heap: Global,
-    text: &mut String,
-    schema: &Schema<'_>,
-    node: &NodeEntry,
-) -> Result<(), AllocError> {
-    push_header(heap, text, schema, &node.header)?;
-    let body = match node.body {
-        Body::Group(count) => format!(in heap; ":group,{count}")?,
+fn push_node(text: &mut String, schema: &Schema<'_>, node: &NodeEntry) -> Result<(), AllocError> {
+    push_header(text, schema, &node.header)?;
+    match node.body {
+        Body::Group(count) => write!(text, ":group,{count}"),
         Body::Primitive(leaf) => {
             let physical = <basic::PhysicalType as Code>::code(leaf.physical);
-            format!(in heap; ":leaf,{physical}")?
+            write!(text, ":leaf,{physical}")
         }
-    };
-    text.push_str(body.as_str())
+    }
 }
 
 /// The parts of a trace file, or why it is none.
@@ -172,13 +156,13 @@ fn head_text(heap: Global, bytes: &[u8]) -> Result<String, AllocError> {
 /// Both images, the number of records, the batch size and the batches.
 fn parts_text(heap: Global, head: &Head<'_>) -> Result<String, AllocError> {
     let mut text = String::from_str(heap, "ok ")?;
-    push_hex(heap, &mut text, head.file_image)?;
+    push_hex(&mut text, head.file_image)?;
     text.push('/')?;
-    push_hex(heap, &mut text, head.read_image)?;
+    push_hex(&mut text, head.read_image)?;
     let records = head.records;
     let size = head.batch_size;
-    text.push_str(format!(in heap; "/{records}/{size}/")?.as_str())?;
-    push_hex(heap, &mut text, head.batches)?;
+    write!(text, "/{records}/{size}/")?;
+    push_hex(&mut text, head.batches)?;
     Ok(text)
 }
 
@@ -188,6 +172,7 @@ fn plan_text(heap: Global, bytes: &[u8]) -> Result<String, AllocError> {
     let mut text = String::new(heap);
     let mut plan = Plan::new();
     let mut rest = bytes;
+    // A bound on the heads, each of which takes bytes; it is no index.
     for _ in 0..bytes.len() {
         let Ok(head) = Head::read(rest) else {
             return String::from_str(heap, "no head");
@@ -196,10 +181,10 @@ fn plan_text(heap: Global, bytes: &[u8]) -> Result<String, AllocError> {
             Ok(()) => text.push_str("ok")?,
             Err(refusal) => {
                 let number = refusal.number();
-                text.push_str(format!(in heap; "refused {number}")?.as_str())?;
+                write!(text, "refused {number}")?;
             }
         }
-        push_plan(heap, &mut text, &plan)?;
+        push_plan(&mut text, &plan)?;
         rest = head.batches;
         if rest.is_empty() {
             break;
@@ -210,47 +195,36 @@ fn plan_text(heap: Global, bytes: &[u8]) -> Result<String, AllocError> {
 }
 
 /// Adds a plan's batch size and each entry of its shape.
-fn push_plan(heap: Global, text: &mut String, plan: &Plan) -> Result<(), AllocError> {
+fn push_plan(text: &mut String, plan: &Plan) -> Result<(), AllocError> {
     if let Some(size) = plan.batch_size() {
-        text.push_str(format!(in heap; " {size}")?.as_str())?;
+        write!(text, " {size}")?;
     }
     for entry in plan.shape() {
         text.push(' ')?;
-        push_place(heap, text, plan, entry)?;
+        push_place(text, plan, entry)?;
     }
     Ok(())
 }
 
 /// Adds an entry: its form's letter, its node, and a group's number of fields or a leaf's column and kind.
-fn push_place(
-    heap: Global,
-    text: &mut String,
-    plan: &Plan,
-    entry: &ShapeEntry,
-) -> Result<(), AllocError> {
+fn push_place(text: &mut String, plan: &Plan, entry: &ShapeEntry) -> Result<(), AllocError> {
     let node = entry.node;
-    let place = match entry.form {
-        Form::Leaf => return push_value(heap, text, plan, entry),
-        Form::Optional => format!(in heap; "o{node}")?,
-        Form::Group(fields) => format!(in heap; "g{node}:{fields}")?,
-        Form::List => format!(in heap; "l{node}")?,
-        Form::Map => format!(in heap; "m{node}")?,
-    };
-    text.push_str(place.as_str())
+    match entry.form {
+        Form::Leaf => push_value(text, plan, entry),
+        Form::Optional => write!(text, "o{node}"),
+        Form::Group(fields) => write!(text, "g{node}:{fields}"),
+        Form::List => write!(text, "l{node}"),
+        Form::Map => write!(text, "m{node}"),
+    }
 }
 
 /// Adds a leaf's entry.
-fn push_value(
-    heap: Global,
-    text: &mut String,
-    plan: &Plan,
-    entry: &ShapeEntry,
-) -> Result<(), AllocError> {
+fn push_value(text: &mut String, plan: &Plan, entry: &ShapeEntry) -> Result<(), AllocError> {
     let node = entry.node;
     let Some(used) = plan.used().get(entry.leaf as usize) else {
         return text.push_str("unused");
     };
     let column = used.column;
     let kind = used.kind.number();
-    text.push_str(format!(in heap; "v{node}:{column},{kind}")?.as_str())
+    write!(text, "v{node}:{column},{kind}")
 }

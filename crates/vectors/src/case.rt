@@ -2,9 +2,10 @@
 ghost use Rattle.std.specs.Prelude.{◌<◌, IfOk};
 
 use std::alloc::{AllocError, AllocFailed, Global};
+use std::fmt;
 
 /// What a case is about.
-#[derive(Clone, Copy, Debug, PartialEq, Eq)]
+#[derive(Clone, Copy, Debug, PartialEq, Eq, PartialOrd, Ord)]
 pub enum Group {
     /// Whether bytes are well-formed UTF-8.
     Utf8,
@@ -32,6 +33,7 @@ pub(crate) const GROUPS: [Group; 6] = [
 
 impl Group {
     /// The group's name in a line.
+    // A text, which `Display` writes and `named` compares.
     pub(crate) fn name(self) -> &'static str {
         match self {
             Group::Utf8 => "utf8",
@@ -44,31 +46,34 @@ impl Group {
     }
 
     fn named(name: &str) -> Option<Group> {
-        for group in GROUPS {
-            if group.name() == name {
-                return Some(group);
-            }
-        }
-        None
+        GROUPS.iter().copied().find(|group| group.name() == name)
+    }
+}
+
+impl fmt::Display for Group {
+    fn fmt<W: fmt::Write>(&self, f: &mut fmt::Formatter<W>) -> fmt::Result {
+        f.pad(self.name())
     }
 }
 
 /// Why a line is no case.
 #[derive(Clone, Copy, Debug)]
 pub enum CaseError {
-    Memory,
+    /// Memory ran out.
+    Memory(AllocError),
+    /// It has not the form of a case.
     Form,
 }
 
 impl From<AllocError> for CaseError {
-    fn from(_error: AllocError) -> CaseError {
-        CaseError::Memory
+    fn from(error: AllocError) -> CaseError {
+        CaseError::Memory(error)
     }
 }
 
 impl<T: Drop> From<AllocFailed<T>> for CaseError {
-    fn from(_error: AllocFailed<T>) -> CaseError {
-        CaseError::Memory
+    fn from(failed: AllocFailed<T>) -> CaseError {
+        CaseError::Memory(AllocError::from(failed))
     }
 }
 
@@ -83,18 +88,12 @@ pub struct Case<'a> {
 
 impl<'a> Case<'a> {
     /// The case of a line.
+    // It takes an allocator, which `FromStr` and `TryFrom` don't.
     pub(crate) fn parse(heap: Global, line: &'a str) -> Result<Case<'a>, CaseError> {
-        let Some((name, rest)) = line.split_once(' ') else {
-            return Err(CaseError::Form);
-        };
-        let Some((digits, expected)) = rest.split_once(' ') else {
-            return Err(CaseError::Form);
-        };
-        let Some(group) = Group::named(name) else {
-            return Err(CaseError::Form);
-        };
+        let (name, rest) = line.split_once(' ').ok_or(CaseError::Form)?;
+        let (digits, expected) = rest.split_once(' ').ok_or(CaseError::Form)?;
         Ok(Case {
-            group,
+            group: Group::named(name).ok_or(CaseError::Form)?,
             digits,
             bytes: unhex(heap, digits)?,
             expected,
@@ -120,6 +119,7 @@ fn unhex(heap: Global, digits: &str) -> Result<Vec<u8>, CaseError> {
 }
 
 /// The worth of a hexadecimal digit.
+// Lower case alone, where `char::to_digit` takes both.
 fn digit(byte: u8) -> Result<u8, CaseError>
     ensures { IfOk result (λ d. d < 16) }
 {

@@ -2,22 +2,17 @@
 use crate::answer::answer;
 use crate::case::{Case, CaseError, GROUPS, Group};
 use std::alloc::{AllocError, Global};
+use std::collections::BTreeMap;
+use std::fmt::Write;
 
 /// How many cases there were, and how many were not answered as expected.
-#[derive(Clone, Copy)]
+#[derive(Clone, Copy, Default)]
 struct Tally {
     cases: usize,
     failed: usize,
 }
 
 impl Tally {
-    fn none() -> Tally {
-        Tally {
-            cases: 0,
-            failed: 0,
-        }
-    }
-
     fn add(&mut self, is_expected: bool) {
         self.cases = self.cases.saturating_add(1);
         if !is_expected {
@@ -25,13 +20,13 @@ impl Tally {
         }
     }
 
-    fn line(&self, heap: Global, name: &str) -> Result<String, AllocError> {
+    fn push_line(&self, text: &mut String, name: &str) -> Result<(), AllocError> {
         let cases = self.cases;
         let failed = self.failed;
         if failed == 0 {
-            format!(in heap; "{name}: {cases} cases, all as expected\n")
+            write!(text, "{name}: {cases} cases, all as expected\n")
         } else {
-            format!(in heap; "{name}: {cases} cases, {failed} not as expected\n")
+            write!(text, "{name}: {cases} cases, {failed} not as expected\n")
         }
     }
 }
@@ -39,12 +34,7 @@ impl Tally {
 /// The tallies of the groups, and the lines of what was not as expected.
 #[derive(Drop)]
 struct Report {
-    utf8: Tally,
-    number: Tally,
-    image: Tally,
-    nodes: Tally,
-    head: Tally,
-    plan: Tally,
+    groups: BTreeMap<Group, Tally>,
     all: Tally,
     failures: String,
 }
@@ -52,51 +42,31 @@ struct Report {
 impl Report {
     fn new(heap: Global) -> Report {
         Report {
-            utf8: Tally::none(),
-            number: Tally::none(),
-            image: Tally::none(),
-            nodes: Tally::none(),
-            head: Tally::none(),
-            plan: Tally::none(),
-            all: Tally::none(),
+            groups: BTreeMap::new(heap),
+            all: Tally::default(),
             failures: String::new(heap),
         }
     }
 
-    fn tally(&self, group: Group) -> Tally {
-        match group {
-            Group::Utf8 => self.utf8,
-            Group::Number => self.number,
-            Group::Image => self.image,
-            Group::Nodes => self.nodes,
-            Group::Head => self.head,
-            Group::Plan => self.plan,
-        }
-    }
-
-    fn add(&mut self, group: Group, is_expected: bool) {
-        match group {
-            Group::Utf8 => self.utf8.add(is_expected),
-            Group::Number => self.number.add(is_expected),
-            Group::Image => self.image.add(is_expected),
-            Group::Nodes => self.nodes.add(is_expected),
-            Group::Head => self.head.add(is_expected),
-            Group::Plan => self.plan.add(is_expected),
-        }
+    fn add(&mut self, group: Group, is_expected: bool) -> Result<(), AllocError> {
+        self.groups.entry(group)?.or_default().add(is_expected);
         self.all.add(is_expected);
+        Ok(())
     }
 
     /// Replays a case.
     fn replay_case(&mut self, heap: Global, case: &Case<'_>) -> Result<(), AllocError> {
         let got = answer(heap, case.group, case.bytes.as_slice())?;
         let is_expected = got.as_str() == case.expected;
-        self.add(case.group, is_expected);
+        self.add(case.group, is_expected)?;
         if !is_expected {
-            let name = case.group.name();
+            let group = case.group;
             let digits = case.digits;
             let expected = case.expected;
-            let note = format!(in heap; "{name} {digits}: expected {expected}, got {got}\n")?;
-            self.failures.push_str(note.as_str())?;
+            return write!(
+                self.failures,
+                "{group} {digits}: expected {expected}, got {got}\n"
+            );
         }
         Ok(())
     }
@@ -108,22 +78,22 @@ impl Report {
         }
         match Case::parse(heap, line) {
             Ok(case) => self.replay_case(heap, &case),
-            Err(CaseError::Memory) => Err(AllocError),
+            Err(CaseError::Memory(error)) => Err(error),
             Err(CaseError::Form) => {
                 self.all.add(false);
-                let note = format!(in heap; "no case: {line}\n")?;
-                self.failures.push_str(note.as_str())
+                write!(self.failures, "no case: {line}\n")
             }
         }
     }
 
     /// What came of all cases.
-    fn text(&self, heap: Global) -> Result<String, AllocError> {
+    fn text(&self) -> Result<String, AllocError> {
         let mut text = self.failures.clone()?;
         for group in GROUPS {
-            text.push_str(self.tally(group).line(heap, group.name())?.as_str())?;
+            let tally = self.groups.get(&group).copied().unwrap_or_default();
+            tally.push_line(&mut text, group.name())?;
         }
-        text.push_str(self.all.line(heap, "vectors")?.as_str())?;
+        self.all.push_line(&mut text, "vectors")?;
         Ok(text)
     }
 }
@@ -134,5 +104,5 @@ pub(crate) fn replay(heap: Global, cases: &str) -> Result<String, AllocError> {
     for line in cases.lines() {
         report.replay_line(heap, line)?;
     }
-    report.text(heap)
+    report.text()
 }

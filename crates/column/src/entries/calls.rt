@@ -2,12 +2,13 @@
 ghost use Rattle.column.specs.EntryLists.{list_means};
 
 use super::EntryList;
-use crate::asking::copy_bytes;
-use crate::fault::SourceFault;
+use super::delivering::gather;
+use crate::asking::{copy_bytes, is_askable};
+use crate::fault::{MISUSE, SourceFault};
 use crate::shape::ColumnShape;
 use crate::source::BatchSource;
 use crate::values::ColumnValue;
-use value::{Int96, Run};
+use value::Run;
 
 impl<'a> BatchSource for EntryList<'a> {
     ghost means = { list_means };
@@ -18,37 +19,40 @@ impl<'a> BatchSource for EntryList<'a> {
         self.table.get(column)
     }
 
-    fn deliver_words(
+    fn deliver<V: ColumnValue>(
         &mut self,
         column: usize,
         k: usize,
         repetitions: &mut [u8],
         definitions: &mut [u8],
-        values: &mut [u64],
+        values: &mut [V],
     ) -> Result<(usize, usize), SourceFault> {
-        self.deliver::<u64>(column, k, repetitions, definitions, values)
-    }
-
-    fn deliver_int96s(
-        &mut self,
-        column: usize,
-        k: usize,
-        repetitions: &mut [u8],
-        definitions: &mut [u8],
-        values: &mut [Int96],
-    ) -> Result<(usize, usize), SourceFault> {
-        self.deliver::<Int96>(column, k, repetitions, definitions, values)
-    }
-
-    fn deliver_runs(
-        &mut self,
-        column: usize,
-        k: usize,
-        repetitions: &mut [u8],
-        definitions: &mut [u8],
-        values: &mut [Run],
-    ) -> Result<(usize, usize), SourceFault> {
-        self.deliver::<Run>(column, k, repetitions, definitions, values)
+        let shape = self.table.get(column);
+        if !is_askable(
+            shape,
+            V::value_kind(),
+            k,
+            repetitions.len(),
+            definitions.len(),
+            values.len(),
+        ) {
+            return Err(MISUSE);
+        }
+        let from = self.cursors[column];
+        let taken = gather(
+            self.entries,
+            column,
+            from,
+            k,
+            repetitions,
+            definitions,
+            values,
+        );
+        self.cursors[column] = taken.at;
+        match self.fault {
+            Some(fault) if taken.levels == 0 => Err(fault),
+            _ => Ok((taken.levels, taken.present)),
+        }
     }
 
     fn copy_run(&self, run: Run, memory: &mut [u8]) -> Result<(), SourceFault> {

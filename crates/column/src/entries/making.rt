@@ -1,12 +1,13 @@
 // Making a source over a list of entries: each entry is looked at once.
 ghost use Rattle.std.specs.Prelude.{◌≡◌, ◌≤◌, true, length};
+ghost use Rattle.std.specs.Result.{result_err};
 ghost use Rattle.column.specs.Columns.{plan_shapes, shapes_in};
 ghost use Rattle.column.specs.Entries.{triplet_of, triplet_fault, entry_fault, Checked, entries_mean};
 ghost use Rattle.column.specs.EntryLists.{list_means};
 ghost use Rattle.column.specs.Examples.{EntryExamples};
 
 use super::EntryList;
-use crate::asking::{kind_of, run_lies, same_kind};
+use crate::asking::{kind_of, run_lies};
 use crate::entry::Entry;
 use crate::fault::{SourceFault, SourceFaultKind};
 use crate::limits::{MAX_COLUMNS, MAX_MEMORY};
@@ -15,38 +16,34 @@ use crate::table::ColumnTable;
 use plan::Plan;
 use value::Value;
 
-/// What is wrong with an entry of a column of this shape, over a pool of so many bytes, if anything is.
-fn triplet_fault(shape: ColumnShape, pool: usize, entry: Entry) -> Option<SourceFaultKind>
-    ensures { result ≡ triplet_fault shape pool (triplet_of entry) }
+/// Tries an entry of a column of this shape, over a pool of so many bytes; an error is what is wrong with it.
+fn check_triplet(shape: ColumnShape, pool: usize, entry: Entry) -> Result<(), SourceFaultKind>
+    ensures { result_err result ≡ triplet_fault shape pool (triplet_of entry) }
 {
     let at_max = entry.definition == shape.max_def_level;
     match entry.value {
-        None if at_max => Some(SourceFaultKind::BadValues),
-        None => None,
-        Some(value) if !at_max || !same_kind(kind_of(value), shape.kind) => {
-            Some(SourceFaultKind::BadValues)
-        }
-        Some(Value::Run(run)) if !run_lies(pool, run) => Some(SourceFaultKind::BadRun),
-        Some(_) => None,
+        None if at_max => Err(SourceFaultKind::BadValues),
+        None => Ok(()),
+        Some(value) if !at_max || kind_of(value) != shape.kind => Err(SourceFaultKind::BadValues),
+        Some(Value::Run(run)) if !run_lies(pool, run) => Err(SourceFaultKind::BadRun),
+        Some(_) => Ok(()),
     }
 }
 
-/// What is wrong with an entry, if anything is.
-fn entry_fault(table: &ColumnTable, pool: usize, entry: Entry) -> Option<SourceFaultKind>
-    ensures { result ≡ entry_fault (shapes_in table.now) pool entry }
+/// Tries an entry; an error is what is wrong with it.
+fn check_entry(table: &ColumnTable, pool: usize, entry: Entry) -> Result<(), SourceFaultKind>
+    ensures { result_err result ≡ entry_fault (shapes_in table.now) pool entry }
 {
-    match table.get(entry.column) {
-        Some(shape) => triplet_fault(shape, pool, entry),
-        None => Some(SourceFaultKind::BadColumn),
-    }
+    let shape = table.get(entry.column).ok_or(SourceFaultKind::BadColumn)?;
+    check_triplet(shape, pool, entry)
 }
 
 /// How many entries come before the first bad one, and the fault that this is.
 fn checked(table: &ColumnTable, pool: usize, entries: &[Entry]) -> (usize, Option<SourceFault>)
     ensures { Checked (shapes_in table.now) pool entries.now result.0 result.1 }
 {
-    for i in 0..entries.len() {
-        if let Some(kind) = entry_fault(table, pool, entries[i]) {
+    for (i, entry) in entries.iter().enumerate() {
+        if let Err(kind) = check_entry(table, pool, *entry) {
             let fault = SourceFault {
                 kind,
                 place: i as u64,

@@ -1,5 +1,6 @@
+use Rattle.std.proofs.Common.{◌*◌}
 use Rattle.varint.proofs.Groups.{Sofar}
 use Rattle.varint.proofs.number.Given as goal
 
-abbrev pub invariant-loop-next : goal.invariant-loop-next
-invariant-loop-next l = Sofar l.bytes l.at l.next l.shift l.value
+abbrev pub invariant-loop-index : goal.invariant-loop-index
+invariant-loop-index l = Sofar l.rest l.index (7 * l.index) l.value

@@ -6,32 +6,28 @@ use Rattle.plan.proofs.build.planned.Goals as goal
 pub returns-in_err-shape : goal.returns-in_err-shape
 returns-in_err-shape c =
     let p = err_from_is_err_and c.from_residual.result c.from_residual.ensures.1 in
-    record {
-      plans = λ f t w hf ht. shape_refused c.args.batch f t c.from_residual.result p.0 _ p.1 p.2 (c.in_err-shape.ensures t ht);
-      means = λ f t w hf ht. shape_refused_means f t c.from_residual.result p.0 _ w p.1 p.2 (c.in_err-shape.ensures t ht);
-      says_why = λ f t w hf ht. shape_refused_why f t c.from_residual.result p.0 _ w p.1 p.2 (c.in_err-shape.ensures t ht);
-    }
+    rw (p.1, p.2)
+    (record {
+      plans = λ f t w hf ht. shape_refused c.args.batch_size f t _ (c.in_err-shape.ensures t ht);
+      means = λ f t w hf ht. shape_refused_means f t _ w (c.in_err-shape.ensures t ht);
+      says_why = λ f t w hf ht. shape_refused_why f t _ w (c.in_err-shape.ensures t ht);
+    })
 
 pub returns-in_err-uses : goal.returns-in_err-uses
 returns-in_err-uses c =
     let p = err_from_is_err_and c.from_residual-in_err-uses.result c.from_residual-in_err-uses.ensures.1 in
-    record {
-      plans = λ f t w hf ht.
-          let s = c.in_ok-shape.ensures t ht in
-          uses_refused c.args.batch f t s.0 c.from_residual-in_err-uses.result p.0 _ p.1 p.2 s.1 (c.in_err-uses.ensures.links t f w ht hf);
-      means = λ f t w hf ht.
-          let s = c.in_ok-shape.ensures t ht in
-          uses_refused_means f t s.0 c.from_residual-in_err-uses.result p.0 c.in_err-uses.field-0.0 w p.1 s.1 (c.in_err-uses.ensures.links_exactly_what_it_can t f w ht hf);
-      says_why = λ f t w hf ht.
-          let s = c.in_ok-shape.ensures t ht in
-          uses_refused_why f t s.0 c.from_residual-in_err-uses.result p.0 c.in_err-uses.field-0.0 w p.1 p.2 s.1 (c.in_err-uses.ensures.denies_first t f w ht hf);
-    }
+    rw (p.1, p.2)
+    (record {
+      plans = λ f t w hf ht. let s = c.in_ok-shape.ensures t ht in uses_refused c.args.batch_size f t s.0 _ s.1 (c.in_err-uses.ensures.links t f w ht hf);
+      means = λ f t w hf ht. let s = c.in_ok-shape.ensures t ht in uses_refused_means f t s.0 c.in_err-uses.field-0.0 w s.1 (c.in_err-uses.ensures.links_exactly_what_it_can t f w ht hf);
+      says_why = λ f t w hf ht. let s = c.in_ok-shape.ensures t ht in uses_refused_why f t s.0 c.in_err-uses.field-0.0 w s.1 (c.in_err-uses.ensures.denies_first t f w ht hf);
+    })
 
 pub returns : goal.returns
 returns c =
     record {
       plans = λ f t w hf ht.
-          made c.args.batch f t _ refl refl (c.in_ok-shape.ensures t ht) (c.in_ok-uses.ensures.links t f w ht hf)
+          made c.args.batch_size f t _ refl (c.in_ok-shape.ensures t ht) (c.in_ok-uses.ensures.links t f w ht hf)
           (c.of-2.ensures.columns ∙ columns_kept c.args.file.now f hf) (c.of-3.ensures.names ∙ names_kept c.args.read.now t w ht);
       means = λ f t w hf ht.
           made_means f t _ w (c.in_ok-shape.ensures t ht) (c.in_ok-uses.ensures.links_exactly_what_it_can t f w ht hf) (c.in_ok-uses.ensures.uses_distinct_columns t f w ht hf);

@@ -1,4 +1,4 @@
 use Rattle.trace.proofs.refusal.refused.Goals as goal
 
 pub returns : goal.returns
-returns c = rw (c.number-number.ensures, c.reason-reason.ensures) at c.format.ensures.ok
+returns c = rw c.number-number.ensures at c.format.ensures.ok

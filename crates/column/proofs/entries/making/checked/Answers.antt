@@ -5,8 +5,8 @@ use Rattle.column.proofs.entries.making.checked.Goals as goal
 pub loop-i-init : goal.loop-i-init
 loop-i-init c = checking_none _ _ _
 
-pub returns-in-Some : goal.returns-in-Some
-returns-in-Some c = checked_bad _ _ c.args.entries.now c.loop-i.i _ c.loop-i-test.true c.loop-i.invariant c.in-Some.kind (sym c.in-Some.ensures)
+pub returns-in-Err : goal.returns-in-Err
+returns-in-Err c = checked_bad _ _ c.args.entries.now c.loop-i.i _ c.loop-i-test.true c.loop-i.invariant c.in-Err.kind (sym c.in-Err.ensures)
 
 pub loop-i-preserved : goal.loop-i-preserved
 loop-i-preserved c = checking_more _ _ c.args.entries.now c.loop-i.i _ c.loop-i-test.true c.loop-i.invariant (sym c.in_default.ensures)

@@ -1,10 +1,10 @@
-use Rattle.std.proofs.Common.{arith}
+use Rattle.std.proofs.Common.{length, ap, arith}
 use Rattle.std.proofs.lemmas.Result.{err_from_is_err_and}
 use Rattle.plan.proofs.Roots.{root_node, root_stands, root_formed, root_refused}
 use Rattle.plan.proofs.shape.ShapeTable.of.Goals as goal
 
 pub node-requires : goal.node-requires
-node-requires c = record { entries = omega (arith, c.empty-table.ensures.len); leaves = omega (arith, c.empty-table.ensures.leaves) }
+node-requires c = record { entries = omega (arith, ap length c.empty-table.ensures.entries); leaves = omega (arith, c.empty-table.ensures.leaves) }
 
 pub returns-in_err-node : goal.returns-in_err-node
 returns-in_err-node c t h =
@@ -13,4 +13,4 @@ returns-in_err-node c t h =
 
 pub returns : goal.returns
 returns c t h =
-    root_formed t c.empty-table.result c.node.new.self _ c.empty-table.ensures.len c.empty-table.ensures.leaves (c.in_ok-node.ensures.formed (root_node t) (root_stands c.args.read.now t h))
+    root_formed t c.empty-table.result c.node.new.self _ c.empty-table.ensures.entries c.empty-table.ensures.leaves (c.in_ok-node.ensures.formed (root_node t) (root_stands c.args.read.now t h))

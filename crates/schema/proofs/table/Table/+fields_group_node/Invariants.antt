@@ -12,4 +12,4 @@ abbrev pub decreases-node : goal.decreases-node
 decreases-node l = 3 * (16 - l.above.len)
 
 abbrev pub invariant-fields-loop : goal.invariant-fields-loop
-invariant-fields-loop l = Sofar l.bytes l.path l.count l.initial.self l.at l.self l.next l.counter
+invariant-fields-loop l = Sofar l.path l.count l.initial.self l.initial.cursor l.self l.cursor l.counter

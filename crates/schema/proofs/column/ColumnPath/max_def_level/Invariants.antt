@@ -1,6 +1,0 @@
-use Rattle.std.proofs.Common.{◌≡◌, take, count_by}
-use Rattle.schema.specs.Columns.{defines}
-use Rattle.schema.proofs.column.ColumnPath.max_def_level.Given as goal
-
-abbrev pub invariant-loop-header : goal.invariant-loop-header
-invariant-loop-header l = l.level ≡ count_by (λ h. defines h.repetition) (take l.header-index l.header-items)
