@@ -6,7 +6,7 @@ ghost use Rattle.column.specs.Faults.{fault_number};
 #[derive(Clone, Copy, Debug, PartialEq, Eq)]
 pub enum SourceFaultKind {
     /// More entries, or bytes of memory, than 2^31 - 1.
-    TooLarge = 1,
+    TooLarge,
     /// The bytes end inside.
     Truncated,
     /// A number is in bad form or out of range.
@@ -39,6 +39,6 @@ impl SourceFaultKind {
     pub fn number(self) -> u8
         ensures { result ≡ fault_number self }
     {
-        self as u8
+        self as u8 + 1
     }
 }

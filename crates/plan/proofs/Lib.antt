@@ -24,6 +24,7 @@ pub mod LinkVisit
 pub mod LinkTop
 pub mod LinkMeaning
 pub mod PoolNames
+pub mod ColumnsListed
 pub mod LinkSamples
 pub mod Planning
 pub mod Builds

@@ -36,10 +36,10 @@ mutual
       omega (arith, length-append (columns_at (path ++ heading x ∷ []) x) (columns_all path xs))
 
 module _ (read : Schema) (nodes : List NodeEntry) (all : nodes ≡ entries_of read) (t : Tree) (holds : Holds read t) where
-  some_node : length nodes ≡ 0 → ⊥
+  pub some_node : length nodes ≡ 0 → ⊥
   some_node e = omega (arith, ap length all, ap length holds.nodes, length-map (entries_of read) (row read.image.now))
 
-  root_body : (d : NodeEntry) → (get_or nodes 0 d).body ≡ Group (count t.fields)
+  pub root_body : (d : NodeEntry) → (get_or nodes 0 d).body ≡ Group (count t.fields)
   root_body d =
       let seen : row read.image.now (get_or nodes 0 d) ≡ get_or (seen_rows read) 0 (row read.image.now d) =
       ap (λ l. row read.image.now (get_or l 0 d)) all ∙ sym (get_or-map (row read.image.now) (entries_of read) 0 d (row read.image.now d) (omega (arith, ap length holds.nodes, length-map (entries_of read) (row read.image.now)))) in

@@ -10,7 +10,7 @@ use Rattle.schema.specs.Columns.{repetition_of}
 use Rattle.schema.specs.Places.{named}
 use Rattle.plan.specs.Links.{last_of, headings_of, names, repetitions, annotations}
 
-last_at : (hs : List Header) (d : Header) → 0 < length hs → (get_or hs (length hs - 1) d).annotation ≡ last_of (map (λ h. h.annotation) hs)
+pub last_at : (hs : List Header) (d : Header) → 0 < length hs → (get_or hs (length hs - 1) d).annotation ≡ last_of (map (λ h. h.annotation) hs)
 last_at [] d h = absurd (omega arith)
 last_at (x ∷ []) d h = refl
 last_at (x ∷ y ∷ ys) d h =

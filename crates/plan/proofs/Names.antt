@@ -21,14 +21,14 @@ module _ (l m : List ℕ) where
     left : (r : Bool) → r ≡ bytes_eq m (l ++ tuple_ending) → r ≡ (bytes_eq m array_name || bytes_eq m (l ++ tuple_ending))
     left r e = e ∙ ap (λ b. b || bytes_eq m (l ++ tuple_ending)) (sym (refuted (bytes_eq m array_name) (m ≡ array_name) (bytes_eq-Decides m array_name) other))
 
-    named_tuple : (front : List ℕ) (r : Bool) → m ≡ front ++ tuple_ending → Decides r (front ≡ l) → r ≡ (bytes_eq m array_name || bytes_eq m (l ++ tuple_ending))
+    pub named_tuple : (front : List ℕ) (r : Bool) → m ≡ front ++ tuple_ending → Decides r (front ≡ l) → r ≡ (bytes_eq m array_name || bytes_eq m (l ++ tuple_ending))
     named_tuple front r is d =
         left r
         (same_from_decides r (bytes_eq m (l ++ tuple_ending))
         (Decides-like r (λ e. is ∙ ap (λ f. f ++ tuple_ending) e) (λ e. append_cancel_right front l tuple_ending (sym is ∙ e)) d)
         (bytes_eq-Decides m (l ++ tuple_ending)))
 
-    named_otherwise : ((front : List ℕ) → m ≡ front ++ tuple_ending → ⊥) → false ≡ (bytes_eq m array_name || bytes_eq m (l ++ tuple_ending))
+    pub named_otherwise : ((front : List ℕ) → m ≡ front ++ tuple_ending → ⊥) → false ≡ (bytes_eq m array_name || bytes_eq m (l ++ tuple_ending))
     named_otherwise none-such = left false (sym (refuted (bytes_eq m (l ++ tuple_ending)) (m ≡ l ++ tuple_ending) (bytes_eq-Decides m (l ++ tuple_ending)) (none-such l)))
 
     -- what stands before `_tuple`, compared with the list's name t

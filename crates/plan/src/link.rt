@@ -51,6 +51,10 @@ impl Schemas<'_> {
     fn same_path(&self, file_path: &[Header], read_path: &[Header]) -> bool
         ensures { result ≡ same_path (names (headings_of self.now.file.now file_path.now)) (names (headings_of self.now.read.now read_path.now)) }
     {
+        // Before any name, so that a path of another depth costs nothing.
+        if file_path.len() != read_path.len() {
+            return false;
+        }
         let names = read_path.iter().map(|header| self.read.text(header.name));
         file_path
             .iter()

@@ -28,7 +28,7 @@ pub flag_again : (b : Bool) (rest : List ℕ) → code_in flag_code flags (encod
 flag_again b rest = code_back flag_code flags b rest (flag_back b) (flag_small b)
 
 -- a length n of at most 255 is read, and so many bytes of text stand after it
-name_whole : (bs : List ℕ) (n : ℕ) (rest : List ℕ) → number_here bs ≡ got n rest → n ≤ 255 → n ≤ length rest → well_formed (take n rest) ≡ true → name_in bs ≡ got (take n rest) (drop n rest)
+pub name_whole : (bs : List ℕ) (n : ℕ) (rest : List ℕ) → number_here bs ≡ got n rest → n ≤ 255 → n ≤ length rest → well_formed (take n rest) ≡ true → name_in bs ≡ got (take n rest) (drop n rest)
 name_whole bs n rest read low long good = let a = le-ltb 255 n low in let b = le-ltb (length rest) n long in rw read (rw (a, b) (rw good))
 
 pub name_back : (name rest : List ℕ) → FitsName name → name_in (name_image name ++ rest) ≡ got name rest

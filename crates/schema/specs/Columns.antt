@@ -1,5 +1,5 @@
 -- The columns of a schema. Assumes nothing.
-use Rattle.std.specs.Prelude.{ℕ, Bool, true, false, List, [], ◌∷◌, ◌++◌, map, take, count_by}
+use Rattle.std.specs.Prelude.{ℕ, Bool, true, false, List, [], ◌∷◌, ◌++◌, map, take, count_by, replicate, None}
 use Rattle.basic.specs.declared.types.Repetition.{Repetition}
 use Rattle.basic.specs.declared.types.Repetition.TheVariants.{Required, Optional, Repeated}
 use Rattle.schema.specs.declared.entry.Header.{Header}
@@ -58,6 +58,14 @@ unfoldable mutual
 -- the columns of a schema
 abbrev pub columns_of : Tree → List ColumnOf
 columns_of t = columns_all [] t.fields
+
+-- the header that fills a path where it has no node
+abbrev pub nameless : Header
+nameless = record { name = record { start = 0; len = 0 }; repetition = Required; annotation = None }
+
+-- the root's own path, which has no nodes
+abbrev pub root_path : ColumnPath
+root_path = record { headers = replicate 16 nameless; len = 0 }
 
 -- the headers that a path of the table holds
 abbrev pub parts : ColumnPath → List Header

@@ -1,18 +1,32 @@
 // The columns of a schema: its leaves, each with its path and its levels.
 ghost use Rattle.std.specs.Prelude.{◌≡◌, ℕ, ◌+◌, ◌<◌, ◌≤◌, Bool, List, [], ◌∷◌, ◌++◌, length, count_by};
 ghost use Rattle.basic.specs.declared.types.Repetition.{Repetition};
-ghost use Rattle.schema.specs.Columns.{parts, made, max_definition, max_repetition, repetition_of, defines as defines_level, repeats as repeats_level};
+ghost use Rattle.schema.specs.Columns.{parts, made, root_path, max_definition, max_repetition, repetition_of, defines as defines_level, repeats as repeats_level};
 
 use crate::entry::{Header, Leaf};
 use crate::limits::MAX_LEVELS;
 use basic::Repetition;
 
 /// The headers from right below the root down to a node.
-#[derive(Clone, Copy, Default)]
+#[derive(Clone, Copy)]
 pub struct ColumnPath {
     // A path is `Copy`, which an `ArrayVec` is not: so an array with a length beside it.
     headers: [Header; MAX_LEVELS],
     len: usize,
+}
+
+/// The root's own path, which is empty.
+// By hand, since an array of one value is made at once, where a derived one is made header by header: a table of columns
+// is made for each image.
+impl Default for ColumnPath {
+    ghost is_default = { λ path. path ≡ root_path };
+
+    fn default() -> ColumnPath {
+        ColumnPath {
+            headers: [Header::default(); MAX_LEVELS],
+            len: 0,
+        }
+    }
 }
 
 /// A leaf with its path and the greatest levels of its values.

@@ -10,9 +10,9 @@ use varint::NumberError;
 #[derive(Clone, Copy, Debug, PartialEq, Eq)]
 pub enum ImageRefusal {
     /// It ends inside, has a number, a code or a name in bad form, or bytes over.
-    Malformed = 2,
+    Malformed,
     /// It passes a limit.
-    Limit = 3,
+    Limit,
 }
 
 impl ImageRefusal {
@@ -20,7 +20,7 @@ impl ImageRefusal {
     pub fn number(self) -> u8
         ensures { result ≡ refusal_number self }
     {
-        self as u8
+        self as u8 + 2
     }
 }
 

@@ -57,17 +57,26 @@ pub(crate) fn report(heap: Global, command: Command, file: &[u8]) -> Result<Stri
 fn told(heap: Global, command: Command, file: &[u8]) -> Result<String, Untold> {
     let head = Head::read(file)?;
     match command {
-        Command::Columns => {
-            let mut schema = Schema::new();
-            schema.read(head.file_image)?;
-            Ok(listing(heap, &head, &schema)?)
-        }
-        Command::Shape => {
-            let mut plan = Plan::new();
-            plan.build(head.batch_size, head.file_image, head.read_image)?;
-            Ok(drawing(heap, head.batch_size, &plan)?)
-        }
+        Command::Columns => columns(heap, &head),
+        Command::Shape => shape(heap, &head),
     }
+}
+
+/// What `columns` tells of a file.
+// By itself, so that it needs no stack for a plan, which it makes none of.
+#[inline(never)]
+fn columns(heap: Global, head: &Head<'_>) -> Result<String, Untold> {
+    let mut schema = Schema::new();
+    schema.read(head.file_image)?;
+    Ok(listing(heap, head, &schema)?)
+}
+
+/// What `shape` tells of a file.
+#[inline(never)]
+fn shape(heap: Global, head: &Head<'_>) -> Result<String, Untold> {
+    let mut plan = Plan::new();
+    plan.build(head.batch_size, head.file_image, head.read_image)?;
+    Ok(drawing(heap, head.batch_size, &plan)?)
 }
 
 /// The line of a file that is no trace. One that is too long was not read to its end.

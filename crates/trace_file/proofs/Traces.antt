@@ -40,7 +40,7 @@ pub trace_back : (t : Trace) → Within t → trace_in (trace_bytes t) ≡ got t
 trace_back t w = let l = lt-ltb _ (2 ^ 31) w.size in rw l (parts_back t w)
 
 -- bytes that are refused are no trace's
-declined : (e : HeadError) (bs : List ℕ) → trace_in bs ≡ refused e → (t : Trace) → Within t → bs ≡ trace_bytes t → ⊥
+pub declined : (e : HeadError) (bs : List ℕ) → trace_in bs ≡ refused e → (t : Trace) → Within t → bs ≡ trace_bytes t → ⊥
 declined e bs p t w q =
     let s : refused e ≡ got t [] = sym p ∙ ap trace_in q ∙ trace_back t w in
     cc

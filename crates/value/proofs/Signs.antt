@@ -1,9 +1,9 @@
 -- Signed numbers and their words. Assumes nothing.
-use Rattle.std.proofs.Common.{◌≡◌, ℕ, suc, ◌-◌, ◌*◌, ◌%◌, ◌^◌, ◌<◌, ◌≤◌, ℤ, pos, negsuc, ◌+ℤ◌, ◌-ℤ◌, ◌*ℤ◌, neg_ℤ, sym, ap, ◌∙◌, subst, arith, pow_mono, w64, SFits, to_z, of_z, rules}
-use lib.Signed.{mag, quot_z}
+use Rattle.std.proofs.Common.{◌≡◌, ℕ, suc, ◌+◌, ◌-◌, ◌*◌, ◌/◌, ◌%◌, ◌^◌, ◌<◌, ◌≤◌, ℤ, pos, negsuc, ◌+ℤ◌, ◌-ℤ◌, ◌*ℤ◌, neg_ℤ, sym, ap, ◌∙◌, subst, arith, pow_mono, cond, ltb, w64, SFits, to_z, of_z, rules}
+use lib.Signed.{mag, quot_z, shr_z}
 use Rattle.std.proofs.lemmas.Int.{ints, to_z-of_z, of_z-to_z}
-use Rattle.std.proofs.lemmas.Nat.{div-add-mod', mod_below, pow_pos}
-use native.Mathlib.Nat.{pow-succ'}
+use Rattle.std.proofs.lemmas.Nat.{div-add-mod', div-mul-add, mod_below, mod-pow-add, pow-add, pow_pos, shl-shr}
+use native.Mathlib.Nat.{mul-div_cancel, mul-lt-mul_of_pos_right, mul-le-mul_right, sub-add_cancel, mul-mod_left, pow-succ'}
 use Rattle.value.specs.Numbers.{signed, word_of, Cut}
 
 -- as the toolchain reads signed numbers
@@ -26,6 +26,28 @@ mag_signed bits n some fits =
     let most : 2 ^ (bits - 1) ≤ 2 ^ 63 = (let le : bits - 1 ≤ 63 = omega arith in pow_mono le) in
     let low : n % 2 ^ bits < 2 ^ bits = mod_below n (2 ^ bits) (pow_pos bits) in
     grind (arith, ints)
+
+-- of what is moved up, the low bits alone are left
+raised : (n j k : ℕ) → (n * 2 ^ k) % 2 ^ (j + k) ≡ n % 2 ^ j * 2 ^ k
+raised n j k = simp (mod-pow-add, shl-shr, mul-mod_left) (omega arith)
+
+-- what fills a word from its top comes back down with its sign
+lowered : (p b h m : ℕ) → 0 < m → p < b → b ≡ 2 * h → h * m ≡ 2 ^ 63 → shr_z (to_z w64 (p * m)) m ≡ cond (ltb p h) (pos p) (pos p -ℤ pos b)
+lowered p b h m some fits half top =
+    let low : p < h → p * m < 2 ^ 63 = λ k. omega (arith, mul-lt-mul_of_pos_right k some) in
+    let high : h ≤ p → 2 ^ 63 ≤ p * m = λ k. omega (arith, mul-le-mul_right m k) in
+    let back = mul-div_cancel p some in
+    let sign : (2 ^ 64 - suc (p * m)) / m ≡ b - suc p = ap (λ x. x / m) (omega (arith, ap (λ x. x * m) (sub-add_cancel fits), ap (λ x. x * m) half)) ∙ div-mul-add (b - suc p) m (m - 1) (omega arith) in
+    grind (arith, ints)
+
+-- a shift to the top of a word and back copies the sign
+pub copied : (bits n : ℕ) → 0 < bits → bits < 64 → shr_z (to_z w64 ((n * 2 ^ (64 - bits)) % 2 ^ 64)) (2 ^ (64 - bits)) ≡ signed bits n
+copied bits n some fewer =
+    let above = 64 - bits in
+    let half : 2 ^ bits ≡ 2 * 2 ^ (bits - 1) = ap (λ k. 2 ^ k) (omega arith) ∙ pow-succ' 2 (bits - 1) in
+    let top : 2 ^ (bits - 1) * 2 ^ above ≡ 2 ^ 63 = sym (pow-add 2 (bits - 1) above) ∙ ap (λ k. 2 ^ k) {y = 63} (omega arith) in
+    let moved = ap (λ k. (n * 2 ^ above) % 2 ^ k) {x = 64} (omega arith) ∙ raised n bits above in
+    ap (λ x. shr_z (to_z w64 x) (2 ^ above)) moved ∙ lowered _ (2 ^ bits) _ _ (pow_pos above) (mod_below n (2 ^ bits) (pow_pos bits)) half top
 
 -- the quotient of the toolchain is cut toward zero
 pub cut_quotient : (z : ℤ) → Cut z 1000000 (quot_z z (pos 1000000))

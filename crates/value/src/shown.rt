@@ -72,18 +72,14 @@ fn low(word: u64, bits: u32) -> u64
 }
 
 /// The word of 64 bits with the signed value of the low bits of a word, so many.
-// By arithmetic, for every width: a cast is to one width, and would be three texts.
+// Up to the top of the word and back, where the shift copies the sign.
 fn extended(word: u64, bits: u32) -> u64
     requires some { 0 < bits }
     requires fewer { bits < 64 }
     ensures { result ≡ word_of (signed bits word) }
 {
-    let plain = low(word, bits);
-    if plain < 1 << (bits - 1) {
-        plain
-    } else {
-        plain.wrapping_sub(1 << bits)
-    }
+    let above = 64 - bits;
+    ((word << above).cast_signed() >> above).cast_unsigned()
 }
 
 impl Int96 {

@@ -55,6 +55,8 @@ impl Report {
     }
 
     /// Replays a case.
+    // Not inlined: what answers a case takes much stack, and a line that is no case needs none of it.
+    #[inline(never)]
     fn replay_case(&mut self, heap: Global, case: &Case<'_>) -> Result<(), AllocError> {
         let got = answer(heap, case.group, case.bytes.as_slice())?;
         let is_expected = got.as_str() == case.expected;

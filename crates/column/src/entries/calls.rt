@@ -2,9 +2,8 @@
 ghost use Rattle.column.specs.EntryLists.{list_means};
 
 use super::EntryList;
-use super::delivering::gather;
-use crate::asking::{copy_bytes, is_askable};
-use crate::fault::{MISUSE, SourceFault};
+use crate::asking::copy_bytes;
+use crate::fault::SourceFault;
 use crate::shape::ColumnShape;
 use crate::source::BatchSource;
 use crate::values::ColumnValue;
@@ -27,32 +26,7 @@ impl<'a> BatchSource for EntryList<'a> {
         definitions: &mut [u8],
         values: &mut [V],
     ) -> Result<(usize, usize), SourceFault> {
-        let shape = self.table.get(column);
-        if !is_askable(
-            shape,
-            V::value_kind(),
-            k,
-            repetitions.len(),
-            definitions.len(),
-            values.len(),
-        ) {
-            return Err(MISUSE);
-        }
-        let from = self.cursors[column];
-        let taken = gather(
-            self.entries,
-            column,
-            from,
-            k,
-            repetitions,
-            definitions,
-            values,
-        );
-        self.cursors[column] = taken.at;
-        match self.fault {
-            Some(fault) if taken.levels == 0 => Err(fault),
-            _ => Ok((taken.levels, taken.present)),
-        }
+        self.hand_over(column, k, repetitions, definitions, values)
     }
 
     fn copy_run(&self, run: Run, memory: &mut [u8]) -> Result<(), SourceFault> {

@@ -1,19 +1,24 @@
 // Delivering triplets of a list of entries.
 ghost use Rattle.std.specs.Prelude.{◌≡◌, ◌+◌, ◌<◌, ◌≤◌, length, drop, position, IfSome};
-ghost use Rattle.column.specs.Delivery.{slices};
+ghost use Rattle.column.specs.Meaning.{coming_of};
+ghost use Rattle.column.specs.Delivery.{slices, Delivered, Chosen};
+ghost use Rattle.column.specs.EntryLists.{list_means};
 ghost use Rattle.column.specs.Entries.{of_column};
 ghost use Rattle.column.specs.Gathering.{Sought, OfKind, ColumnOfKind, Written, Gathered};
 
+use super::EntryList;
+use crate::asking::is_askable;
 use crate::entry::Entry;
+use crate::fault::{MISUSE, SourceFault};
 use crate::values::ColumnValue;
 use value::Value;
 
 /// What one walk has taken: the place that comes next, and how many levels and values.
 #[derive(Clone, Copy)]
 pub(crate) struct Taken {
-    pub(crate) at: usize,
-    pub(crate) levels: usize,
-    pub(crate) present: usize,
+    at: usize,
+    levels: usize,
+    present: usize,
 }
 
 /// How many entries come before the first one of a column.
@@ -50,7 +55,7 @@ fn put<V: ColumnValue>(value: Option<Value>, values: &mut [V], present: usize) -
 
 /// Takes up to k triplets of a column, from a place on.
 // The parts of a request are passed as `BatchSource::deliver` has them.
-pub(super) fn gather<V: ColumnValue>(
+fn gather<V: ColumnValue>(
     entries: &[Entry],
     column: usize,
     from: usize,
@@ -84,5 +89,47 @@ pub(super) fn gather<V: ColumnValue>(
         at,
         levels: k,
         present,
+    }
+}
+
+impl<'a> EntryList<'a> {
+    /// Hands over the next triplets of a column, up to k.
+    pub(super) fn hand_over<V: ColumnValue>(
+        &mut self,
+        column: usize,
+        k: usize,
+        repetitions: &mut [u8],
+        definitions: &mut [u8],
+        values: &mut [V],
+    ) -> Result<(usize, usize), SourceFault>
+        ensures delivers { Delivered V.ColumnValue.val V.ColumnValue.kind (list_means self.old) (list_means self.new) column k (slices repetitions.old definitions.old values.old) (slices repetitions.new definitions.new values.new) result }
+        ensures one_to_k { Chosen (coming_of (list_means self.old) column) k result }
+    {
+        let shape = self.table.get(column);
+        if !is_askable(
+            shape,
+            V::value_kind(),
+            k,
+            repetitions.len(),
+            definitions.len(),
+            values.len(),
+        ) {
+            return Err(MISUSE);
+        }
+        let from = self.cursors[column];
+        let taken = gather(
+            self.entries,
+            column,
+            from,
+            k,
+            repetitions,
+            definitions,
+            values,
+        );
+        self.cursors[column] = taken.at;
+        match self.fault {
+            Some(fault) if taken.levels == 0 => Err(fault),
+            _ => Ok((taken.levels, taken.present)),
+        }
     }
 }

@@ -3,7 +3,7 @@ use Rattle.column.specs.Delivery.{slices}
 use Rattle.column.specs.Columns.{shapes_in}
 use Rattle.column.proofs.Goods.{sound_left}
 use Rattle.column.proofs.Delivering.{asked_below, misused, walk_given, failed, handed, chosen}
-use Rattle.column.proofs.entries.calls.EntryListBatchSource.deliver.Goals as goal
+use Rattle.column.proofs.entries.EntryList.hand_over.Goals as goal
 
 pub returns-then-not-is_askable : goal.returns-then-not-is_askable
 returns-then-not-is_askable g c =
