@@ -94,6 +94,7 @@ fn gather<V: ColumnValue>(
 
 impl<'a> EntryList<'a> {
     /// Hands over the next triplets of a column, up to k.
+    // A function of its own, to which the trait's call hands its request on; the parts of a request are passed as there.
     pub(super) fn hand_over<V: ColumnValue>(
         &mut self,
         column: usize,
